@@ -1,0 +1,15 @@
+pub mod Refusals
+pub mod Bytes
+pub mod TypeTable
+pub mod Sizes
+pub mod Sound
+pub mod Text
+pub mod Trace
+pub mod Decode
+pub mod Encode
+pub mod Records
+pub mod Envelope
+pub mod Walk
+pub mod Writer
+pub mod Answers
+pub mod Header

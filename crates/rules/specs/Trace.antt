@@ -1,0 +1,59 @@
+-- What a walk meets, in its order: claims, present handles, unknown content.
+-- Assumes nothing.
+use mathlib.Core.List.{List, [], _∷_, _++_}
+use Prim.Native.Nat.{ℕ, zero, suc, _+_}
+use Rattle.rules.specs.Refusals.{if_then_else_}
+use lib.Dec.{eqb}
+
+pub data Event : Type 0 where
+  -- an object was claimed: its kind, row, offset and length without fill
+  claimed : (kind row offset length : ℕ) → Event
+  -- a handle's word of all ones
+  presentHandle : Event
+  -- content of an unknown ordinal: its byte number (0 in line) and its handle number
+  unknownContent : (bytes handles : ℕ) → Event
+
+-- Kinds of objects: primary; vector or string content; boxed struct; envelopes of a table; out-of-line payload; unknown
+-- out-of-line content.
+abbrev pub primaryObject : ℕ
+primaryObject = 1
+
+abbrev pub vectorObject : ℕ
+vectorObject = 2
+
+abbrev pub boxedObject : ℕ
+boxedObject = 3
+
+abbrev pub envelopesObject : ℕ
+envelopesObject = 4
+
+abbrev pub payloadObject : ℕ
+payloadObject = 5
+
+abbrev pub unknownObject : ℕ
+unknownObject = 6
+
+-- "An object is four numbers: kind, row, offset, length without fill", one object for each claim and no other.
+unfoldable pub objectList : List Event → List ℕ
+objectList [] = []
+objectList (claimed kind row offset length ∷ trace) = kind ∷ row ∷ offset ∷ length ∷ objectList trace
+objectList (presentHandle ∷ trace) = objectList trace
+objectList (unknownContent bytes handles ∷ trace) = objectList trace
+
+-- How many handles an event takes.
+abbrev pub handlesOf : Event → ℕ
+handlesOf (claimed kind row offset length) = 0
+handlesOf presentHandle = 1
+handlesOf (unknownContent bytes handles) = handles
+
+unfoldable pub presentHandles : List Event → ℕ
+presentHandles [] = 0
+presentHandles (claimed kind row offset length ∷ trace) = presentHandles trace
+presentHandles (presentHandle ∷ trace) = suc (presentHandles trace)
+presentHandles (unknownContent bytes handles ∷ trace) = presentHandles trace
+
+unfoldable pub unknownHandles : List Event → ℕ
+unknownHandles [] = 0
+unknownHandles (claimed kind row offset length ∷ trace) = unknownHandles trace
+unknownHandles (presentHandle ∷ trace) = unknownHandles trace
+unknownHandles (unknownContent bytes handles ∷ trace) = handles + unknownHandles trace

@@ -1,0 +1,107 @@
+-- The type table: rows, the ten kinds, members and ordinals, and recursion over rows.
+-- Assumes nothing.
+use mathlib.Core.Bool.{Bool, true, false}
+use mathlib.Core.List.{List, [], _∷_}
+use Prim.Native.Nat.{ℕ, zero, suc, _+_, _*_, _/_, _%_}
+use lib.Dec.{eqb}
+use lib.ListN.{length, getD}
+use Rattle.rules.specs.Refusals.{if_then_else_}
+
+-- An edition of the wire format says what an envelope is. There is one so far: 8 bytes, with payloads of up to 4 bytes in
+-- line. What depends on the edition: `envelopeSize` here, and Envelope.antt.
+pub data Edition : Type 0 where
+  eightByteEnvelopes : Edition
+
+unfoldable pub envelopeSize : Edition → ℕ
+envelopeSize eightByteEnvelopes = 8
+
+-- "Two lent lists of 32-bit numbers. A row is four: kind, a, b, c. A member is two: ordinal, row."
+pub record TypeTable : Type 0 where
+  pub rows : List ℕ
+  pub members : List ℕ
+  pub edition : Edition
+
+abbrev pub typeTable : List ℕ → List ℕ → TypeTable
+typeTable rows members = record { rows = rows; members = members; edition = eightByteEnvelopes }
+
+-- Rows and members count from 0.
+abbrev pub rowCount : TypeTable → ℕ
+rowCount t = length (t .rows) / 4
+
+abbrev pub memberCount : TypeTable → ℕ
+memberCount t = length (t .members) / 2
+
+-- The four numbers of a row; past the end of the list stands 0.
+abbrev pub kindAt : TypeTable → ℕ → ℕ
+kindAt t row = getD (t .rows) (row * 4) 0
+
+abbrev pub aAt : TypeTable → ℕ → ℕ
+aAt t row = getD (t .rows) (row * 4 + 1) 0
+
+abbrev pub bAt : TypeTable → ℕ → ℕ
+bAt t row = getD (t .rows) (row * 4 + 2) 0
+
+abbrev pub cAt : TypeTable → ℕ → ℕ
+cAt t row = getD (t .rows) (row * 4 + 3) 0
+
+abbrev pub ordinalAt : TypeTable → ℕ → ℕ
+ordinalAt t member = getD (t .members) (member * 2) 0
+
+abbrev pub rowOf : TypeTable → ℕ → ℕ
+rowOf t member = getD (t .members) (member * 2 + 1) 0
+
+-- What a row says, kind by kind; `first` and `count` name members.
+pub data FidlType : Type 0 where
+  bool : FidlType
+  number : (width : ℕ) → FidlType
+  handle : (optional : Bool) → FidlType
+  array : (element count : ℕ) → FidlType
+  vector : (element largest : ℕ) (optional : Bool) → FidlType
+  string : (largest : ℕ) (optional : Bool) → FidlType
+  struct : (first count : ℕ) → FidlType
+  box : (element : ℕ) → FidlType
+  table : (first count : ℕ) → FidlType
+  union : (first count : ℕ) (optional flexible : Bool) → FidlType
+  none : FidlType
+
+-- Document 01's table of kinds, a line each. A union's c is 1 for optional, 2 for flexible, 3 for both.
+abbrev pub typeAs : (kind a b c : ℕ) → FidlType
+typeAs kind a b c =
+    if eqb kind 1 then bool else
+    (if eqb kind 2 then number a else
+    (if eqb kind 3 then handle (eqb a 1) else
+    (if eqb kind 4 then array a b else
+    (if eqb kind 5 then vector a b (eqb c 1) else
+    (if eqb kind 6 then string b (eqb c 1) else
+    (if eqb kind 7 then struct a b else
+    (if eqb kind 8 then box a else
+    (if eqb kind 9 then table a b else
+    (if eqb kind 10 then union a b (eqb (c % 2) 1) (eqb (c / 2) 1) else none)))))))))
+
+unfoldable pub typeOf : TypeTable → ℕ → FidlType
+typeOf t row = typeAs (kindAt t row) (aAt t row) (bAt t row) (cAt t row)
+
+-- The rows of the `count` members from `first` on.
+unfoldable pub memberRows : TypeTable → (first count : ℕ) → List ℕ
+memberRows t first zero = []
+memberRows t first (suc count) = rowOf t first ∷ memberRows t (suc first) count
+
+-- What an ordinal stands for in a table or union: the row of the member that has it, or unknown content.
+pub data Content : Type 0 where
+  known : (row : ℕ) → Content
+  unknown : Content
+
+unfoldable pub contentOf : TypeTable → (first count ordinal : ℕ) → Content
+contentOf t first zero ordinal = unknown
+contentOf t first (suc count) ordinal =
+    let later = contentOf t (suc first) count ordinal in
+    if eqb (ordinalAt t first) ordinal then known (rowOf t first) else later
+
+-- Recursion over rows: `step` makes the value of a row from those of the rows with smaller numbers; a row that is not
+-- below has the value `outside`.
+unfoldable pub below : {A : Type 0} → (outside : A) → (step : (ℕ → A) → ℕ → A) → (bound row : ℕ) → A
+below outside step zero row = outside
+below outside step (suc bound) row =
+    let here = step (below outside step bound) bound in
+    let earlier = below outside step bound row in
+    if eqb row bound then here else earlier
