@@ -24,6 +24,10 @@ pub data Decoded : Type 0 where
   went : (next used : ℕ) (values : List ℕ) (trace : List Event) → Decoded
   stopped : Fault → (values : List ℕ) (trace : List Event) → Decoded
 
+abbrev pub traceOf : Decoded → List Event
+traceOf (went next used values trace) = trace
+traceOf (stopped f values trace) = trace
+
 -- A part of the walk: what it decodes stands in line at a place; objects are claimed from the next free place on.
 abbrev pub Decoder : Type 0
 Decoder = (at next used : ℕ) → Decoded

@@ -13,3 +13,5 @@ pub mod Walk
 pub mod Writer
 pub mod Answers
 pub mod Header
+pub mod Demands
+pub mod Cases

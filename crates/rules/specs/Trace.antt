@@ -1,9 +1,11 @@
 -- What a walk meets, in its order: claims, present handles, unknown content.
 -- Assumes nothing.
-use mathlib.Core.List.{List, [], _∷_, _++_}
-use Prim.Native.Nat.{ℕ, zero, suc, _+_}
-use Rattle.rules.specs.Refusals.{if_then_else_}
+use mathlib.Core.Path.{_≡_}
+use mathlib.Core.List.{List, [], _∷_}
+use Prim.Native.Nat.{ℕ, suc, _+_}
 use lib.Dec.{eqb}
+use Rattle.rules.specs.Refusals.{if_then_else_}
+use Rattle.rules.specs.Bytes.{padded}
 
 pub data Event : Type 0 where
   -- an object was claimed: its kind, row, offset and length without fill
@@ -57,3 +59,31 @@ unknownHandles [] = 0
 unknownHandles (claimed kind row offset length ∷ trace) = unknownHandles trace
 unknownHandles (presentHandle ∷ trace) = unknownHandles trace
 unknownHandles (unknownContent bytes handles ∷ trace) = handles + unknownHandles trace
+
+-- The byte numbers of unknown content out of line.
+unfoldable pub unknownOutOfLine : List Event → List ℕ
+unknownOutOfLine [] = []
+unknownOutOfLine (claimed kind row offset length ∷ trace) = unknownOutOfLine trace
+unknownOutOfLine (presentHandle ∷ trace) = unknownOutOfLine trace
+unknownOutOfLine (unknownContent bytes handles ∷ trace) =
+    if eqb bytes 0 then unknownOutOfLine trace else (bytes ∷ unknownOutOfLine trace)
+
+-- ---- what holds of an object list
+
+-- "The object list tiles the message": the first object starts at `from`, each other where the one before ends with its
+-- fill, and the last ends with its fill at `end`.
+unfoldable pub Tiles : (from end : ℕ) → (objects : List ℕ) → Type 0
+Tiles from end [] = from ≡ end
+Tiles from end (kind ∷ []) = ⊥
+Tiles from end (kind ∷ row ∷ []) = ⊥
+Tiles from end (kind ∷ row ∷ offset ∷ []) = ⊥
+Tiles from end (kind ∷ row ∷ offset ∷ length ∷ objects) = (offset ≡ from) × Tiles (from + padded length) end objects
+
+-- The lengths of the objects that are unknown content.
+unfoldable pub unknownLengths : (objects : List ℕ) → List ℕ
+unknownLengths [] = []
+unknownLengths (kind ∷ []) = []
+unknownLengths (kind ∷ row ∷ []) = []
+unknownLengths (kind ∷ row ∷ offset ∷ []) = []
+unknownLengths (kind ∷ row ∷ offset ∷ length ∷ objects) =
+    if eqb kind unknownObject then (length ∷ unknownLengths objects) else unknownLengths objects

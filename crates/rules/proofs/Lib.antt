@@ -1,0 +1,12 @@
+pub mod Cases
+pub mod Bytes
+pub mod Trace
+pub mod Results
+pub mod Twins
+pub mod Claims
+pub mod Records
+pub mod Envelopes
+pub mod Presence
+pub mod Unknown
+pub mod WalkTwins
+pub mod Demands

@@ -1,0 +1,144 @@
+-- Document 01's cases P1 to P12 as one table, and its slips as another. That they hold is computed: proofs/Cases.antt.
+use mathlib.Core.Path.{_≡_}
+use mathlib.Core.List.{List, [], _∷_, _++_, map}
+use Prim.Native.Nat.{ℕ, zero, suc, _+_, _*_}
+use lib.ListN.{length, set, replicate}
+use Rattle.rules.specs.Refusals.{Answer, accepted, refused, number, place}
+use Rattle.rules.specs.Bytes.{bytesOf}
+use Rattle.rules.specs.TypeTable.{TypeTable, typeTable}
+use Rattle.rules.specs.Answers.{check, Lists, read}
+
+-- A message under a table and root, and what the checker answers; or what the reader hands back.
+pub data Case : Type 0 where
+  checks : (t : TypeTable) (root : ℕ) (bytes : List ℕ) (handles : ℕ) → (number place : ℕ) → Case
+  reads : (t : TypeTable) (root : ℕ) (bytes : List ℕ) (handles : ℕ) → (values objects : List ℕ) → Case
+
+pub data Outcome : Type 0 where
+  answer : (number place : ℕ) → Outcome
+  lists : (values objects : List ℕ) → Outcome
+
+abbrev pub expected : Case → Outcome
+expected (checks t root bytes handles number place) = answer number place
+expected (reads t root bytes handles values objects) = lists values objects
+
+abbrev pub checkOutcome : Answer (Unit {0}) → Outcome
+checkOutcome a = answer (number a) (place a)
+
+abbrev pub readOutcome : Answer Lists → Outcome
+readOutcome (accepted l) = lists (l .values) (l .objects)
+readOutcome (refused f) = answer (number {A = Lists} (refused f)) (place {A = Lists} (refused f))
+
+-- What the rules answer. A reader is lent just the room that the lists take.
+abbrev pub outcome : Case → Outcome
+outcome (checks t root bytes handles n p) = checkOutcome (check (record { table = t; bytes = bytes; handles = handles }) root)
+outcome (reads t root bytes handles values objects) =
+    readOutcome (read (record { table = t; bytes = bytes; handles = handles }) root (length values) (length objects))
+
+-- "Rows: 0 `2,1,0,0`; 1 `2,2,0,0`; 2 `6,0,8,1`; 3 `7,0,2,0`; 4 `9,2,3,0`. Members: `1,1` `2,1` `1,0` `2,3` `3,2`. Root 4."
+abbrev pub padTable : TypeTable
+padTable =
+    typeTable
+    (2 ∷ 1 ∷ 0 ∷ 0 ∷ 2 ∷ 2 ∷ 0 ∷ 0 ∷ 6 ∷ 0 ∷ 8 ∷ 1 ∷ 7 ∷ 0 ∷ 2 ∷ 0 ∷ 9 ∷ 2 ∷ 3 ∷ 0 ∷ [])
+    (1 ∷ 1 ∷ 2 ∷ 1 ∷ 1 ∷ 0 ∷ 2 ∷ 3 ∷ 3 ∷ 2 ∷ [])
+
+abbrev pub present : List ℕ
+present = replicate 8 0xFF
+
+abbrev pub eightZeros : List ℕ
+eightZeros = replicate 8 0
+
+-- The message of P1, and its two envelopes.
+abbrev pub p1 : List ℕ
+p1 =
+    (0x02 ∷ 0x00 ∷ 0x00 ∷ 0x00 ∷ 0x00 ∷ 0x00 ∷ 0x00 ∷ 0x00 ∷ [])
+    ++ (present
+    ++ ((0x02 ∷ 0x00 ∷ 0x00 ∷ 0x00 ∷ 0x00 ∷ 0x00 ∷ 0x01 ∷ 0x00 ∷ [])
+    ++ (0x64 ∷ 0x00 ∷ 0xFD ∷ 0xFF ∷ 0x00 ∷ 0x00 ∷ 0x01 ∷ 0x00 ∷ [])))
+
+-- "Count 0, presence all ones, 16 bytes."
+abbrev pub p4 : List ℕ
+p4 = eightZeros ++ present
+
+-- "Count 4, P1's envelopes, a zero one, `08 00 00 00 00 00 00 00`, eight bytes of content."
+abbrev pub p6 : List ℕ
+p6 = set p1 0 4 ++ (eightZeros ++ ((0x08 ∷ 0 ∷ 0 ∷ 0 ∷ 0 ∷ 0 ∷ 0 ∷ 0 ∷ []) ++ (1 ∷ 2 ∷ 3 ∷ 4 ∷ 5 ∷ 6 ∷ 7 ∷ 8 ∷ [])))
+
+-- "Rows `8,1,0,0` and `7,0,1,0`, member `1,0`, root 1": so many linked objects.
+abbrev pub linkedTable : TypeTable
+linkedTable = typeTable (8 ∷ 1 ∷ 0 ∷ 0 ∷ 7 ∷ 0 ∷ 1 ∷ 0 ∷ []) (1 ∷ 0 ∷ [])
+
+abbrev pub linked : (links : ℕ) → List ℕ
+linked links = replicate (links * 8) 0xFF ++ eightZeros
+
+abbrev pub cases : List Case
+cases =
+    -- P1
+    checks padTable 4 p1 0 0 0
+    ∷ reads padTable 4 p1 0 (2 ∷ 1 ∷ 2 ∷ 1 ∷ 100 ∷ 65533 ∷ []) (1 ∷ 4 ∷ 0 ∷ 16 ∷ 4 ∷ 4 ∷ 16 ∷ 16 ∷ [])
+    -- P2: "P1, byte 17 set to 1: 7 at 17."
+    ∷ checks padTable 4 (set p1 17 1) 0 7 17
+    -- P3: "P1 with count 3 and eight zero bytes added: 19 at 32."
+    ∷ checks padTable 4 (set p1 0 3 ++ eightZeros) 0 19 32
+    -- P4: "value list 0; objects 1,4,0,16 and 4,4,16,0."
+    ∷ checks padTable 4 p4 0 0 0
+    ∷ reads padTable 4 p4 0 (0 ∷ []) (1 ∷ 4 ∷ 0 ∷ 16 ∷ 4 ∷ 4 ∷ 16 ∷ 0 ∷ [])
+    -- P5: "P4, presence 0: 10 at 0."
+    ∷ checks padTable 4 (eightZeros ++ eightZeros) 0 10 0
+    -- P6: "accepted, 56 bytes."
+    ∷ checks padTable 4 p6 0 0 0
+    -- P7: "P6, that 08 as 0C: 15 at 40."
+    ∷ checks padTable 4 (set p6 40 0x0C) 0 15 40
+    -- P8: "P1 plus one byte: 20 at 32."
+    ∷ checks padTable 4 (p1 ++ (0 ∷ [])) 0 20 32
+    -- P9: "P1, one handle: 21 at 0."
+    ∷ checks padTable 4 p1 1 21 0
+    -- P10: "No bytes: 6 at 0."
+    ∷ checks padTable 4 [] 0 6 0
+    -- P11: "P1, byte 22 set to 0: 15 at 16."
+    ∷ checks padTable 4 (set p1 22 0) 0 15 16
+    -- P12: "33 linked objects in 264 bytes accepted, 34 refused 5 at 256."
+    ∷ checks linkedTable 1 (linked 32) 0 0 0
+    ∷ checks linkedTable 1 (linked 33) 0 5 256
+    ∷ []
+
+-- The one claim.
+abbrev pub CasesHold : Type 0
+CasesHold = map outcome cases ≡ map expected cases
+
+-- ---- document 01's "Slips seen before": a message on which each would show
+
+-- Tables within tables: row 0 is a table whose one member is that table again. A table's pointer takes one level and its
+-- envelope another, so 16 tables are the most.
+abbrev pub nestedTable : TypeTable
+nestedTable = typeTable (9 ∷ 0 ∷ 1 ∷ 0 ∷ []) (1 ∷ 0 ∷ [])
+
+abbrev pub nested : (inner : ℕ) → List ℕ
+nested zero = eightZeros ++ present
+nested (suc inner) = bytesOf 8 1 ++ (present ++ (bytesOf 8 (16 + inner * 24) ++ nested inner))
+
+-- A struct with an optional vector of bytes, as a root (2) and as a member of a table (3).
+abbrev pub vectorTable : TypeTable
+vectorTable = typeTable (2 ∷ 1 ∷ 0 ∷ 0 ∷ 5 ∷ 0 ∷ 10 ∷ 1 ∷ 7 ∷ 0 ∷ 1 ∷ 0 ∷ 9 ∷ 1 ∷ 1 ∷ 0 ∷ []) (1 ∷ 1 ∷ 1 ∷ 2 ∷ [])
+
+abbrev pub vectorMember : (byteNumber : ℕ) → List ℕ
+vectorMember byteNumber = bytesOf 8 1 ++ (present ++ (bytesOf 8 byteNumber ++ (bytesOf 8 1 ++ (present ++ bytesOf 8 7))))
+
+abbrev pub slips : List Case
+slips =
+    -- "Taking unknown content's bytes but not its handles."
+    checks padTable 4 (set p6 44 1) 1 0 0
+    ∷ checks padTable 4 (set p6 44 1) 0 14 40
+    -- "Raising depth once for a table's pointer and its envelope together."
+    ∷ checks nestedTable 0 (nested 15) 0 0 0
+    ∷ checks nestedTable 0 (nested 16) 0 5 384
+    -- "Accepting count 5 with an absent optional vector."
+    ∷ checks vectorTable 2 (bytesOf 8 5 ++ eightZeros) 0 11 0
+    -- "Reading the byte number as the payload's own size, without what it refers to."
+    ∷ checks vectorTable 3 (vectorMember 24) 0 0 0
+    ∷ checks vectorTable 3 (vectorMember 16) 0 16 16
+    -- "Rounding in-line structs to 8": P1's second envelope holds a struct of 4 bytes in line.
+    ∷ checks padTable 4 p1 0 0 0
+    ∷ []
+
+abbrev pub SlipsShow : Type 0
+SlipsShow = map outcome slips ≡ map expected slips

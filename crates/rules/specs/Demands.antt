@@ -1,0 +1,65 @@
+-- The customer's demands 2 and 3, in their words and order, about the answers that the public functions promise. They hold
+-- for every type table and root: where the table is not sound or the root not allowed, nothing is accepted or written.
+-- Their proofs: proofs/Demands.antt.
+use mathlib.Core.Path.{_≡_}
+use mathlib.Core.Logic.{_↔_}
+use mathlib.Core.List.{List}
+use Prim.Native.Nat.{ℕ, _+_, _≤_}
+use lib.ListN.{length}
+use Rattle.rules.specs.Refusals.{Answer, accepted}
+use Rattle.rules.specs.Bytes.{Octets}
+use Rattle.rules.specs.TypeTable.{TypeTable}
+use Rattle.rules.specs.Trace.{Event, objectList, presentHandles, unknownHandles, unknownOutOfLine, Tiles, unknownLengths}
+use Rattle.rules.specs.Decode.{Message, traceOf}
+use Rattle.rules.specs.Answers.{walk, check, readValues, readObjects, Written, write}
+
+module _ (t : TypeTable) (root : ℕ) where
+  abbrev pub message : (bytes : List ℕ) (handles : ℕ) → Message
+  message bytes handles = record { table = t; bytes = bytes; handles = handles }
+
+  -- "A message with its handle count is accepted when every test of the checker before, in and after the walk passes."
+  abbrev pub Accepted : (bytes : List ℕ) (handles : ℕ) → Type 0
+  Accepted bytes handles = check (message bytes handles) root ≡ accepted tt
+
+  -- "Its value is its value list", which is handed back given room,
+  abbrev pub HasValue : (bytes : List ℕ) (handles : ℕ) (values : List ℕ) → Type 0
+  HasValue bytes handles values = (room : ℕ) → length values ≤ room → readValues (message bytes handles) root room ≡ accepted values
+
+  -- and so is its object list.
+  abbrev pub HasObjects : (bytes : List ℕ) (handles : ℕ) (objects : List ℕ) → Type 0
+  HasObjects bytes handles objects = (room : ℕ) → length objects ≤ room → readObjects (message bytes handles) root room ≡ accepted objects
+
+  -- A value list is written to a message with its handle count, given room.
+  abbrev pub IsWrittenTo : (values bytes : List ℕ) (handles : ℕ) → Type 0
+  IsWrittenTo values bytes handles = (room : ℕ) → length bytes ≤ room → write t root values room ≡ accepted (record { bytes = bytes; handles = handles })
+
+  -- Demand 2: "For a sound table and an allowed root, a message with its handle count is accepted exactly when it encodes a
+  -- value of that root within the limits; reading gives that value, writing a value gives its message."
+  pub record Demand2 : Type 0 where
+    pub acceptedExactlyWhenEncoded : (bytes : List ℕ) (handles : ℕ) → Octets bytes → Accepted bytes handles ↔ ((values : List ℕ) × IsWrittenTo values bytes handles)
+    pub readingGivesTheValue : (bytes : List ℕ) (handles : ℕ) (values : List ℕ) → IsWrittenTo values bytes handles → HasValue bytes handles values
+    pub writingGivesTheMessage : (bytes : List ℕ) (handles : ℕ) (values : List ℕ) → Octets bytes → HasValue bytes handles values → IsWrittenTo values bytes handles
+
+  -- What an accepted message with its handle count says of itself. `trace` is what its walk met.
+  pub record Canonical (bytes : List ℕ) (handles : ℕ) : Type 0 where
+    pub values : List ℕ
+    pub objects : List ℕ
+    pub trace : List Event
+    pub traceIsTheWalks : trace ≡ traceOf (walk (message bytes handles) root)
+    pub hasValue : HasValue bytes handles values
+    pub hasObjects : HasObjects bytes handles objects
+    -- "Writing what was read gives back the same bytes and handle count."
+    pub roundTrip : IsWrittenTo values bytes handles
+    -- "One object for each claim of the walk, unknown out-of-line content included, and no other."
+    pub objectsAreClaims : objects ≡ objectList trace
+    pub unknownContentIsAnObject : unknownLengths objects ≡ unknownOutOfLine trace
+    -- "The object list tiles the message."
+    pub objectsTile : Tiles 0 (length bytes) objects
+    -- "The handle count is the present handles plus the handle numbers of unknown content."
+    pub handlesAddUp : handles ≡ presentHandles trace + unknownHandles trace
+
+  -- Demand 3: "Two accepted messages hold equal values exactly when bytes and handle counts are equal", and the above.
+  pub record Demand3 : Type 0 where
+    pub equalValuesExactlyWhenEqual : (bytes bytes₂ : List ℕ) (handles handles₂ : ℕ) (values values₂ : List ℕ) → Octets bytes → Octets bytes₂
+        → HasValue bytes handles values → HasValue bytes₂ handles₂ values₂ → (values ≡ values₂) ↔ ((bytes ≡ bytes₂) × (handles ≡ handles₂))
+    pub canonical : (bytes : List ℕ) (handles : ℕ) → Octets bytes → Accepted bytes handles → Canonical bytes handles
