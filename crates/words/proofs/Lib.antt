@@ -1,0 +1,4 @@
+pub mod Fill
+pub mod Loads
+pub mod Room
+pub mod Stores
