@@ -1,0 +1,87 @@
+// Whether a row has its line of the table of kinds (1): document 01, "The type table".
+use crate::table::a_at;
+use crate::table::b_at;
+use crate::table::c_at;
+use crate::table::kind_at;
+use crate::table::ordinal_at;
+use crate::table::row_of;
+ghost use mathlib.Core.Bool.{_&&_};
+ghost use mathlib.Core.List.{List};
+ghost use mathlib.Core.Path.{_≡_};
+ghost use Prim.Native.Nat.{ℕ, _≤_};
+ghost use lib.ListN.{length};
+ghost use Rattle.rules.specs.TypeTable.{typeTable, typeOf};
+ghost use Rattle.rules.specs.Sound.{membersExist, structMembers, risingMembers, rowFits};
+
+// A struct's members exist, "struct ordinals are 1, 2, 3 and on", and its members' rows have smaller numbers than its own.
+fn struct_members(members: &[u32], row: u32, first: u32, count: u32) -> bool
+    requires { ⌜ length (now members) ≤ 2048 ⌝ }
+    ensures { λ r. ⌜ ((rows : List ℕ) → r ≡ (membersExist (typeTable rows (now (members .entry))) first count && structMembers (typeTable rows (now (members .entry))) row first count 1)) ⌝ }
+{
+    if members.len() / 2 < (first as usize) + (count as usize) {
+        return false;
+    }
+    let mut next = first;
+    let mut left = count;
+    let mut ordinal: u32 = 1;
+    while 0 < left {
+        let good = (ordinal_at(members, next) == ordinal) & (row_of(members, next) < row);
+        if !good {
+            return false;
+        }
+        next += 1;
+        left -= 1;
+        ordinal += 1;
+    }
+    true
+}
+
+// The members of a table or union exist, their "ordinals start at 1 or more and rise strictly", and their rows exist.
+fn rising_members(rows: &[u32], members: &[u32], first: u32, count: u32) -> bool
+    requires { ⌜ length (now members) ≤ 2048 ⌝ }
+    ensures { λ r. ⌜ r ≡ (membersExist (typeTable (now (rows .entry)) (now (members .entry))) first count && risingMembers (typeTable (now (rows .entry)) (now (members .entry))) first count 0) ⌝ }
+{
+    if members.len() / 2 < (first as usize) + (count as usize) {
+        return false;
+    }
+    let row_count = rows.len() / 4;
+    let mut next = first;
+    let mut left = count;
+    let mut before: u32 = 0;
+    while 0 < left {
+        let ordinal = ordinal_at(members, next);
+        let good = (before < ordinal) & ((row_of(members, next) as usize) < row_count);
+        if !good {
+            return false;
+        }
+        next += 1;
+        left -= 1;
+        before = ordinal;
+    }
+    true
+}
+
+// The row's line of the table of kinds, with the cells that must be 0; no other kind has one.
+pub(crate) fn row_fits(rows: &[u32], members: &[u32], row: u32) -> bool
+    requires { ⌜ length (now members) ≤ 2048 ⌝ }
+    ensures { λ r. ⌜ r ≡ rowFits (typeTable (now (rows .entry)) (now (members .entry))) row (typeOf (typeTable (now (rows .entry)) (now (members .entry))) row) ⌝ }
+{
+    let kind = kind_at(rows, row);
+    let a = a_at(rows, row);
+    let b = b_at(rows, row);
+    let c = c_at(rows, row);
+    let row_count = rows.len() / 4;
+    match kind {
+        1 => (a == 0) & (b == 0) & (c == 0),
+        2 => ((a == 1) | (a == 2) | (a == 4) | (a == 8)) & (b == 0) & (c == 0),
+        3 => (a <= 1) & (b == 0) & (c == 0),
+        4 => (a < row) & (1 <= b) & (b <= 65528) & (c == 0),
+        5 => ((a as usize) < row_count) & (c <= 1),
+        6 => (a == 0) & (c <= 1),
+        7 => (c == 0) & struct_members(members, row, a, b),
+        8 => ((a as usize) < row_count) & (kind_at(rows, a) == 7) & (b == 0) & (c == 0),
+        9 => (c == 0) & rising_members(rows, members, a, b),
+        10 => (1 <= b) & (c <= 3) & rising_members(rows, members, a, b),
+        _ => false,
+    }
+}
