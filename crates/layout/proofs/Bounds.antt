@@ -12,7 +12,8 @@ use Rattle.rules.specs.declared.Layout.{Layout}
 use Rattle.rules.specs.TypeTable.{TypeTable, bAt, cAt, rowOf, FidlType, bool, number, handle, array, vector, string, struct, box, table, union, none, typeOf, memberRows}
 use Rattle.rules.specs.Sizes.{layout, largestAlignment, fieldsFrom, fieldsOf, fieldsSize, structSize, layoutAs, layoutBelow, layoutOf, sizeOf}
 use Rattle.rules.specs.Sound.{structMembers, rowFits, rowSound}
-use Rattle.layout.proofs.Rows.{both, SoundBelow, sound-fits, sound-size, layout-below, layout-outside, layout-step, array-fits, struct-fits, member-fits}
+use Rattle.layout.specs.Kept.{SoundBelow}
+use Rattle.layout.proofs.Rows.{both, sound-fits, sound-size, layout-below, layout-outside, layout-step, array-fits, struct-fits, member-fits}
 
 -- ---- alignments
 

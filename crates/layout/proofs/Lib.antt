@@ -1,3 +1,6 @@
 pub mod Rows
 pub mod Structs
 pub mod Bounds
+pub mod Elements
+pub mod Members
+pub mod Keeping

@@ -10,10 +10,12 @@ use lib.Dec.{eqb, leb, ltb}
 use lib.ListN.{length}
 use borrow.Author.Tests.{eqb-true, eqb-false, leb-true, ltb-true, ne-eqb}
 use Rattle.rules.specs.declared.Fault.{Fault}
+use Rattle.rules.specs.declared.Layout.{Layout}
 use Rattle.rules.specs.Refusals.{Answer, accepted, refused, require, if_then_else_}
-use Rattle.rules.specs.TypeTable.{TypeTable, rowCount, memberCount, cAt, rowOf, ordinalAt, FidlType, array, struct, none, typeAs, typeOf, below}
+use Rattle.rules.specs.TypeTable.{TypeTable, rowCount, memberCount, kindAt, aAt, bAt, cAt, rowOf, ordinalAt, FidlType, array, struct, none, typeAs, typeOf, below}
 use Rattle.rules.specs.Sizes.{layout, layoutStep, layoutAs, layoutBelow, layoutOf, sizeOf}
 use Rattle.rules.specs.Sound.{listsWhole, structMembers, risingMembers, membersExist, rowFits, rowSound, rowsSound, soundness}
+use Rattle.layout.specs.Kept.{SoundBelow}
 
 -- ---- recursion over rows
 
@@ -77,10 +79,6 @@ lists-whole t e =
     record { rows = omega (arith, leb-true n 1024 (rows .1)); members = omega (arith, leb-true m 2048 (up .1)) }
 
 -- ---- sound rows
-
--- Every row below a bound is sound.
-abbrev pub SoundBelow : TypeTable → ℕ → Type 0
-SoundBelow t bound = (row : ℕ) → row < bound → rowSound t row ≡ true
 
 rows-case : (t : TypeTable) (row count r : ℕ) (first : Bool) → eqb r row ≡ first → row ≤ r
     → rowSound t row ≡ true → (suc row ≤ r → rowSound t r ≡ true) → rowSound t r ≡ true
@@ -202,3 +200,9 @@ other-kind kind a b c o =
       ne-eqb kind 9 (o .not-table),
       ne-eqb kind 10 (o .not-union),
     )
+
+-- A layout that goes by a row's kind and `a` alone is the row's layout.
+pub layout-by-kind : (t : TypeTable) (row kind a : ℕ) (l : Layout) → kind ≡ kindAt t row → a ≡ aAt t row
+    → ((b c : ℕ) → l ≡ layoutAs t (layoutBelow t row) (typeAs kind a b c)) → l ≡ layoutOf t row
+unfolding layoutOf typeOf
+layout-by-kind t row kind a l k e same = same (bAt t row) (cAt t row) ∙ rw (k, e)

@@ -1,16 +1,20 @@
 -- What the answers of this crate mean in the rules, and the numbers that are kept of a type table.
 -- Assumes nothing.
-use mathlib.Core.Bool.{Bool}
+use mathlib.Core.Bool.{Bool, true, false}
 use mathlib.Core.List.{List, [], _∷_}
-use Prim.Native.Nat.{ℕ, zero, suc}
+use mathlib.Core.Path.{_≡_}
+use Prim.Native.Nat.{ℕ, zero, suc, _<_}
 use lib.Dec.{ltb}
+use lib.ListN.{getD}
 use Rattle.rules.specs.declared.Layout.{Layout}
 use Rattle.rules.specs.Refusals.{Answer, accepted, refused, if_then_else_}
-use Rattle.rules.specs.TypeTable.{TypeTable, rowCount}
+use Rattle.rules.specs.TypeTable.{TypeTable, rowCount, typeOf}
 use Rattle.rules.specs.Sizes.{layoutOf}
-use Rattle.rules.specs.Sound.{soundness}
+use Rattle.rules.specs.Sound.{rowFits, rowSound, soundness}
 use Rattle.layout.specs.declared.Soundness.{Soundness}
 use Rattle.layout.specs.declared.Soundness.the-variants as S
+use Rattle.layout.specs.declared.kept.Judged.{Judged}
+use Rattle.layout.specs.declared.kept.Judged.the-variants.{Laid, Bad}
 use Rattle.layout.specs.declared.LayoutAnswer.{LayoutAnswer}
 use Rattle.layout.specs.declared.LayoutAnswer.the-variants as L
 
@@ -45,3 +49,27 @@ keptSizes t = keptFrom (λ l. l .size) t 0 256
 unfoldable pub keptAlignments : TypeTable → List ℕ
 unfolding keptFrom
 keptAlignments t = keptFrom (λ l. l .alignment) t 0 256
+
+-- ---- on the way up the rows
+
+-- A row has its line of the table of kinds.
+abbrev pub Fits : TypeTable → (row : ℕ) → Type 0
+Fits t row = rowFits t row (typeOf t row) ≡ true
+
+-- Every row below a bound is sound.
+abbrev pub SoundBelow : TypeTable → (bound : ℕ) → Type 0
+SoundBelow t bound = (row : ℕ) → row < bound → rowSound t row ≡ true
+
+-- The rows below a bound are sound, and two lists hold their sizes and alignments.
+pub record KeptBelow (t : TypeTable) (bound : ℕ) (sizes alignments : List ℕ) : Type 0 where
+  pub sound : SoundBelow t bound
+  pub size : (row : ℕ) → row < bound → getD sizes row 0 ≡ layoutOf t row .size
+  pub alignment : (row : ℕ) → row < bound → getD alignments row 0 ≡ layoutOf t row .alignment
+
+-- A row on its own: its layout, if it is sound.
+abbrev pub judgedIf : (sound : Bool) → Layout → Judged
+judgedIf true l = Laid l
+judgedIf false l = Bad
+
+abbrev pub judged : TypeTable → (row : ℕ) → Judged
+judged t row = judgedIf (rowSound t row) (layoutOf t row)

@@ -1,4 +1,5 @@
 // The type table judged (1), and the sizes and alignments of its rows: document 01, "The type table" and "Sizes".
+mod kept;
 mod kinds;
 mod sizes;
 mod table;

@@ -6,7 +6,7 @@ ghost use Rattle.rules.specs.TypeTable.{typeTable};
 ghost use Rattle.rules.specs.Sound.{listsWhole};
 
 // The number at an index of a list; past its end stands 0.
-fn number_at(list: &[u32], at: usize) -> u32
+pub(crate) fn number_at(list: &[u32], at: usize) -> u32
     ensures { λ r. ⌜ r ≡ getD (now (list .entry)) at 0 ⌝ }
 {
     if at < list.len() { list[at] } else { 0 }
