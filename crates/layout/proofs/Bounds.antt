@@ -114,7 +114,7 @@ module _ (t : TypeTable) where
       → (row : ℕ) → Alignment (layoutBelow t bound row .alignment)
   inner-alignment bound earlier row = inner-case bound earlier row (ltb row bound) refl
 
-  row-bounded : (row : ℕ) → rowSound t row ≡ true → ((r : ℕ) → r < row → Bounded (layoutOf t r)) → Bounded (layoutOf t row)
+  pub row-bounded : (row : ℕ) → rowSound t row ≡ true → ((r : ℕ) → r < row → Bounded (layoutOf t r)) → Bounded (layoutOf t row)
   row-bounded row sound earlier =
       let aligned = inner-alignment row earlier in
       let some : (r : ℕ) → r < row → 1 ≤ layoutBelow t row r .size = λ r h. rw (layout-below t row r h) (earlier r h .some) in

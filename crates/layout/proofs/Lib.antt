@@ -4,3 +4,4 @@ pub mod Bounds
 pub mod Elements
 pub mod Members
 pub mod Keeping
+pub mod Climbing

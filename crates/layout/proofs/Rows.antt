@@ -68,15 +68,15 @@ required false f a x e = let z : _≡_ {A = Answer _} (refused f) (accepted x) =
 
 -- "Lists whole" bounds the rows and the members.
 pub record Whole (t : TypeTable) : Type 0 where
-  pub rows : rowCount t ≤ 256
-  pub members : memberCount t ≤ 1024
+  pub rows : length (t .rows) ≤ 1024
+  pub members : length (t .members) ≤ 2048
 
 pub lists-whole : (t : TypeTable) → listsWhole t ≡ true → Whole t
 lists-whole t e =
     let n = length (t .rows) in let m = length (t .members) in
     let up = both (eqb (n % 4) 0 && leb 4 n && leb n 1024 && eqb (m % 2) 0) (leb m 2048) e in
     let rows = both (eqb (n % 4) 0 && leb 4 n) (leb n 1024) (both (eqb (n % 4) 0 && leb 4 n && leb n 1024) (eqb (m % 2) 0) (up .0) .0) in
-    record { rows = omega (arith, leb-true n 1024 (rows .1)); members = omega (arith, leb-true m 2048 (up .1)) }
+    record { rows = leb-true n 1024 (rows .1); members = leb-true m 2048 (up .1) }
 
 -- ---- sound rows
 

@@ -3,14 +3,16 @@
 use mathlib.Core.Bool.{Bool, true, false}
 use mathlib.Core.List.{List, [], _∷_}
 use mathlib.Core.Path.{_≡_}
-use Prim.Native.Nat.{ℕ, zero, suc, _<_}
+use Prim.Native.Nat.{ℕ, zero, suc, _≤_, _<_}
 use lib.Dec.{ltb}
-use lib.ListN.{getD}
+use lib.ListN.{getD, length, replicate}
 use Rattle.rules.specs.declared.Layout.{Layout}
-use Rattle.rules.specs.Refusals.{Answer, accepted, refused, if_then_else_}
+use Rattle.rules.specs.declared.Place.the-variants.{Row}
+use Rattle.rules.specs.Refusals.{tableNotSound, fault, Answer, accepted, refused, if_then_else_}
 use Rattle.rules.specs.TypeTable.{TypeTable, rowCount, typeOf}
 use Rattle.rules.specs.Sizes.{layoutOf}
 use Rattle.rules.specs.Sound.{rowFits, rowSound, soundness}
+use Rattle.layout.specs.declared.Prepared.{Prepared}
 use Rattle.layout.specs.declared.Soundness.{Soundness}
 use Rattle.layout.specs.declared.Soundness.the-variants as S
 use Rattle.layout.specs.declared.kept.Judged.{Judged}
@@ -27,6 +29,11 @@ verdictOf (S.Refused f) = refused f
 abbrev pub answerOf : LayoutAnswer → Answer Layout
 answerOf (L.Laid l) = accepted l
 answerOf (L.Refused f) = refused f
+
+-- 1, at a row: nothing is kept.
+abbrev pub refusedAt : (row : ℕ) → Prepared
+refusedAt row =
+    record { verdict = S.Refused (fault tableNotSound (Row row)); sizes = replicate 256 0; alignments = replicate 256 0 }
 
 -- ---- the kept numbers
 
@@ -60,11 +67,17 @@ Fits t row = rowFits t row (typeOf t row) ≡ true
 abbrev pub SoundBelow : TypeTable → (bound : ℕ) → Type 0
 SoundBelow t bound = (row : ℕ) → row < bound → rowSound t row ≡ true
 
+-- A list holds one part of the layouts of the rows below a bound, and zeros past it.
+pub record PartBelow (part : Layout → ℕ) (t : TypeTable) (bound : ℕ) (list : List ℕ) : Type 0 where
+  pub whole : length list ≡ 256
+  pub kept : (row : ℕ) → row < bound → getD list row 0 ≡ part (layoutOf t row)
+  pub zero : (row : ℕ) → bound ≤ row → getD list row 0 ≡ 0
+
 -- The rows below a bound are sound, and two lists hold their sizes and alignments.
 pub record KeptBelow (t : TypeTable) (bound : ℕ) (sizes alignments : List ℕ) : Type 0 where
   pub sound : SoundBelow t bound
-  pub size : (row : ℕ) → row < bound → getD sizes row 0 ≡ layoutOf t row .size
-  pub alignment : (row : ℕ) → row < bound → getD alignments row 0 ≡ layoutOf t row .alignment
+  pub size : PartBelow (λ l. l .size) t bound sizes
+  pub alignment : PartBelow (λ l. l .alignment) t bound alignments
 
 -- A row on its own: its layout, if it is sound.
 abbrev pub judgedIf : (sound : Bool) → Layout → Judged

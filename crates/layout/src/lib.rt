@@ -4,8 +4,16 @@ mod kinds;
 mod sizes;
 mod table;
 
+use kept::Judged;
+use kept::judge;
 use rules::Fault;
 use rules::Layout;
+use rules::Place;
+use table::lists_whole;
+ghost use mathlib.Core.Path.{_≡_};
+ghost use Rattle.rules.specs.TypeTable.{typeTable};
+ghost use Rattle.rules.specs.Sound.{soundness};
+ghost use Rattle.layout.specs.Kept.{verdictOf, keptSizes, keptAlignments, refusedAt};
 
 // The verdict on a type table: sound, or refused with 1.
 pub enum Soundness {
@@ -24,4 +32,48 @@ pub struct Prepared {
 pub enum LayoutAnswer {
     Laid(Layout),
     Refused(Fault),
+}
+
+// 1, at a row: nothing is kept.
+fn refused_at(row: u32) -> Prepared
+    ensures { λ r. ⌜ r ≡ refusedAt row ⌝ }
+{
+    Prepared {
+        verdict: Soundness::Refused(Fault {
+            number: 1,
+            place: Place::Row(row),
+        }),
+        sizes: [0u32; 256],
+        alignments: [0u32; 256],
+    }
+}
+
+// Goes up the rows once: 1 at the lowest bad row, at 256 if a list's length is wrong; of a sound table, the size and the
+// alignment of each row.
+pub fn prepare(rows: &[u32], members: &[u32]) -> Prepared
+    ensures verdict { λ r. ⌜ verdictOf (r .verdict) ≡ soundness (typeTable (now (rows .entry)) (now (members .entry))) ⌝ }
+    ensures sizes { λ r. ⌜ r .sizes ≡ keptSizes (typeTable (now (rows .entry)) (now (members .entry))) ⌝ }
+    ensures alignments { λ r. ⌜ r .alignments ≡ keptAlignments (typeTable (now (rows .entry)) (now (members .entry))) ⌝ }
+{
+    if !lists_whole(rows, members) {
+        return refused_at(256);
+    }
+    let count = rows.len() / 4;
+    let mut sizes = [0u32; 256];
+    let mut alignments = [0u32; 256];
+    let mut row: u32 = 0;
+    while (row as usize) < count {
+        let Judged::Laid(l) = judge(rows, members, &sizes, &alignments, row) else {
+            return refused_at(row);
+        };
+        let at = row as usize;
+        sizes[at] = l.size as u32;
+        alignments[at] = l.alignment as u32;
+        row += 1;
+    }
+    Prepared {
+        verdict: Soundness::Sound,
+        sizes,
+        alignments,
+    }
 }
