@@ -15,7 +15,7 @@ use Rattle.rules.specs.Refusals.{Answer, accepted, refused, require, if_then_el
 use Rattle.rules.specs.TypeTable.{TypeTable, rowCount, memberCount, kindAt, aAt, bAt, cAt, rowOf, ordinalAt, FidlType, array, struct, none, typeAs, typeOf, below}
 use Rattle.rules.specs.Sizes.{layout, layoutStep, layoutAs, layoutBelow, layoutOf, sizeOf}
 use Rattle.rules.specs.Sound.{listsWhole, structMembers, risingMembers, membersExist, rowFits, rowSound, rowsSound, soundness}
-use Rattle.layout.specs.Kept.{SoundBelow}
+use Rattle.layout.specs.Kept.{Fits, SoundBelow}
 
 -- ---- recursion over rows
 
@@ -206,3 +206,17 @@ pub layout-by-kind : (t : TypeTable) (row kind a : ℕ) (l : Layout) → kind �
     → ((b c : ℕ) → l ≡ layoutAs t (layoutBelow t row) (typeAs kind a b c)) → l ≡ layoutOf t row
 unfolding layoutOf typeOf
 layout-by-kind t row kind a l k e same = same (bAt t row) (cAt t row) ∙ rw (k, e)
+
+-- What the soundness of a type table says of a row in use.
+pub record SoundRow (t : TypeTable) (row : ℕ) : Type 0 where
+  pub below : SoundBelow t row
+  pub fits : Fits t row
+  pub members : memberCount t ≤ 1024
+
+pub sound-row : (t : TypeTable) → soundness t ≡ accepted tt → (row : ℕ) → row < rowCount t → SoundRow t row
+sound-row t sound row h =
+    record {
+      below = λ r l. sound-rows t sound r (omega arith);
+      fits = sound-fits t row (sound-rows t sound row h);
+      members = omega (arith, lists-whole t (sound-lists t sound) .members);
+    }

@@ -1,9 +1,11 @@
 // The type table judged (1), and the sizes and alignments of its rows: document 01, "The type table" and "Sizes".
+mod calculator;
 mod kept;
 mod kinds;
 mod sizes;
 mod table;
 
+use calculator::row_layout;
 use kept::Judged;
 use kept::judge;
 use rules::Fault;
@@ -13,7 +15,8 @@ use table::lists_whole;
 ghost use mathlib.Core.Path.{_≡_};
 ghost use Rattle.rules.specs.TypeTable.{typeTable};
 ghost use Rattle.rules.specs.Sound.{soundness};
-ghost use Rattle.layout.specs.Kept.{verdictOf, keptSizes, keptAlignments, refusedAt};
+ghost use Rattle.rules.specs.Answers.{layoutAnswer};
+ghost use Rattle.layout.specs.Kept.{verdictOf, answerOf, keptSizes, keptAlignments, refusedAt};
 
 // The verdict on a type table: sound, or refused with 1.
 pub enum Soundness {
@@ -75,5 +78,24 @@ pub fn prepare(rows: &[u32], members: &[u32]) -> Prepared
         verdict: Soundness::Sound,
         sizes,
         alignments,
+    }
+}
+
+// The layout of a row; 1, then 2 for a row that does not exist.
+pub fn layout_of(rows: &[u32], members: &[u32], row: u32) -> LayoutAnswer
+    ensures { λ r. ⌜ answerOf r ≡ layoutAnswer (typeTable (now (rows .entry)) (now (members .entry))) row ⌝ }
+{
+    let prepared = prepare(rows, members);
+    let verdict = prepared.verdict;
+    if let Soundness::Refused(fault) = verdict {
+        return LayoutAnswer::Refused(fault);
+    }
+    if (row as usize) < rows.len() / 4 {
+        LayoutAnswer::Laid(row_layout(rows, members, row))
+    } else {
+        LayoutAnswer::Refused(Fault {
+            number: 2,
+            place: Place::Row(row),
+        })
     }
 }

@@ -1,0 +1,148 @@
+-- The proof of the cycle of calls of layouts: a row's kind says which rows it is made of, and those have smaller numbers.
+-- Assumes nothing.
+use mathlib.Core.Path.{_≡_, ap, sym, _∙_}
+use Prim.Native.Nat.{ℕ, _+_, _*_, _<_}
+use native.Mathlib.Omega.{arith}
+use borrow.Author.Needs.{needs}
+use borrow.Fn.Kinds.{In}
+use borrow.Fn.PlainCycle.{Measures, is, falls, and}
+use Rattle.rules.specs.TypeTable.{typeTable, kindAt, aAt, bAt, rowOf}
+use Rattle.rules.specs.Sizes.{layoutBelow, layoutOf}
+use Rattle.layout.proofs.Rows.{sound-row, layout-by-kind}
+use Rattle.layout.proofs.Elements.{element-below, element-size, array-layout}
+use Rattle.layout.proofs.Members.{Placing, empty-struct, placing-first, next-below, next-placeable, closeable, placing-next, placing-last}
+use Rattle.layout.proofs.calculator.row_layout.Reads as row-layout
+use Rattle.layout.proofs.calculator.row_layout.Kinds as row-layout-kinds
+use Rattle.layout.proofs.calculator.+row_layout+struct_layout.Lts-row_layout as row-layout-lts
+use Rattle.layout.proofs.calculator.struct_layout.Reads as struct-layout
+use Rattle.layout.proofs.calculator.struct_layout.Kinds as struct-layout-kinds
+use Rattle.layout.proofs.calculator.+row_layout+struct_layout.Lts-struct_layout as struct-layout-lts
+use Rattle.layout.proofs.sizes.array_layout.Reads as array-layout-reads
+use Rattle.layout.proofs.sizes.close.Reads as close-reads
+use Rattle.layout.proofs.sizes.fixed_layout.Reads as fixed-layout-reads
+use Rattle.layout.proofs.sizes.place.Reads as place-reads
+use Rattle.layout.proofs.table.a_at.Reads as a-at-reads
+use Rattle.layout.proofs.table.b_at.Reads as b-at-reads
+use Rattle.layout.proofs.table.kind_at.Reads as kind-at-reads
+use Rattle.layout.proofs.table.row_of.Reads as row-of-reads
+use Rattle.layout.proofs.calculator.+row_layout+struct_layout.{statement}
+use Rattle.layout.proofs.calculator.+row_layout+struct_layout.Tie.{close}
+
+abbrev μ-row-layout : Measures 2 row-layout-kinds.ps ℕ
+μ-row-layout κs a = 2 * a .1 .1 .0 + 1
+
+abbrev μ-struct-layout : Measures 2 struct-layout-kinds.ps ℕ
+μ-struct-layout κs a = 2 * a .1 .1 .0
+
+abbrev row-layout-at : ℕ → In 2 row-layout-kinds.ps
+row-layout-at t =
+    and 2 row-layout-kinds.ps (is 2 row-layout-kinds.ps μ-row-layout t) row-layout.Pre
+
+abbrev row-layout-below : ℕ → In 2 row-layout-kinds.ps
+row-layout-below t =
+    and 2 row-layout-kinds.ps (falls 2 row-layout-kinds.ps _<_ μ-row-layout t) row-layout.Pre
+
+abbrev struct-layout-at : ℕ → In 2 struct-layout-kinds.ps
+struct-layout-at t =
+    and 2 struct-layout-kinds.ps (is 2 struct-layout-kinds.ps μ-struct-layout t) struct-layout.Pre
+
+abbrev struct-layout-below : ℕ → In 2 struct-layout-kinds.ps
+struct-layout-below t =
+    and 2 struct-layout-kinds.ps (falls 2 struct-layout-kinds.ps _<_ μ-struct-layout t) struct-layout.Pre
+
+abbrev struct-layout-Inv-loop : struct-layout-lts.InvT-loop
+struct-layout-Inv-loop rows members row next₀ left₀ so-far₀ next left so-far = Placing (typeTable rows members) row next left so-far
+
+abbrev struct-layout-μ-loop : struct-layout-lts.MeasureT-loop
+struct-layout-μ-loop rows members row next₀ left₀ so-far₀ next left so-far = left
+
+pub +row-layout+struct-layout-spec : {M : Type 1} → statement M
++row-layout+struct-layout-spec =
+    close μ-row-layout μ-struct-layout
+    (λ t. row-layout-lts.spec (
+      kind-at-reads.Asked,
+      kind-at-reads.Learnt,
+      a-at-reads.Asked,
+      a-at-reads.Learnt,
+      row-layout-below t,
+      row-layout.Post,
+      b-at-reads.Asked,
+      b-at-reads.Learnt,
+      array-layout-reads.Asked,
+      array-layout-reads.Learnt,
+      struct-layout-below t,
+      struct-layout.Post,
+      fixed-layout-reads.Asked,
+      fixed-layout-reads.Learnt,
+    )
+    (row-layout-at t)
+    row-layout.Post
+    (λ c κs. search needs)
+    (λ c κs. search needs)
+    -- the element's row is below the array's
+    (λ c κs. let s = c .before .before .before .before .before in let y = typeTable (s .args .rows .now) (s .args .members .now) in let sound = sound-row y (s .pre .1 .0) (s .args .row) (s .pre .1 .1) in
+    let kind : kindAt y (s .args .row) ≡ 4 = sym (c .before .before .kind-at .ensures) ∙ c .match .keys1 in
+    let below = element-below y (s .args .row) kind (sound .fits) in
+    let named = c .before .a-at .ensures in
+    (omega (arith, s .pre .0, below, named), (s .pre .1 .0, omega (arith, s .pre .1 .1, below, named))))
+    (λ c κs. search needs)
+    (λ c κs. let s = c .before .before .before .before .before .before .before in let y = typeTable (s .args .rows .now) (s .args .members .now) in let sound = sound-row y (s .pre .1 .0) (s .args .row) (s .pre .1 .1) in
+    let kind : kindAt y (s .args .row) ≡ 4 = sym (c .before .before .before .before .kind-at .ensures) ∙ c .before .before .match .keys1 in
+    rw (c .before .row-layout .ensures, c .before .before .before .a-at .ensures) (element-size y (s .args .row) kind (sound .fits) (sound .below)))
+    (λ c κs. let s = c .before .before .before .before .before in
+    (omega (arith, s .pre .0), (s .pre .1 .0, (s .pre .1 .1, sym (c .before .before .kind-at .ensures) ∙ c .match .keys2))))
+    (λ c κs. search needs)
+    (λ c. let s = c .before .before .before .before .before .before .before .before in let y = typeTable (s .args .rows .now) (s .args .members .now) in let sound = sound-row y (s .pre .1 .0) (s .args .row) (s .pre .1 .1) in
+    let kind : kindAt y (s .args .row) ≡ 4 = sym (c .before .before .before .before .before .kind-at .ensures) ∙ c .before .before .before .match .keys1 in
+    rw (c .array-layout .ensures, c .before .before .row-layout .ensures, c .before .b-at .ensures, c .before .before .before .before .a-at .ensures) (sym (array-layout y (s .args .row) kind (sound .fits))))
+    (λ c. search needs)
+    (λ c. let s = c .before .before .before .before .before .before in let y = typeTable (s .args .rows .now) (s .args .members .now) in
+    layout-by-kind y (s .args .row) (c .before .before .before .kind-at .result) (c .before .before .a-at .result) (c .fixed-layout .result)
+    (c .before .before .before .kind-at .ensures) (c .before .before .a-at .ensures)
+    (c .fixed-layout .ensures (s .args .rows .now) (s .args .members .now) (layoutBelow y (s .args .row)))))
+    (λ t. struct-layout-lts.spec (
+      a-at-reads.Asked,
+      a-at-reads.Learnt,
+      b-at-reads.Asked,
+      b-at-reads.Learnt,
+      row-of-reads.Asked,
+      row-of-reads.Learnt,
+      row-layout-below t,
+      row-layout.Post,
+      place-reads.Asked,
+      place-reads.Learnt,
+      close-reads.Asked,
+      close-reads.Learnt,
+    )
+    (struct-layout-at t)
+    struct-layout.Post
+    struct-layout-Inv-loop
+    struct-layout-μ-loop
+    (λ c κs. search needs)
+    (λ c κs. search needs)
+    (λ c. let s = c .before .before .before .before .before in let y = typeTable (s .args .rows .now) (s .args .members .now) in
+    sym (empty-struct y (s .args .row) (s .pre .1 .1 .1) (sym (c .before .b-at .ensures) ∙ c .if1 .taken)))
+    (λ c. let s = c .before .before .before .before .before in let y = typeTable (s .args .rows .now) (s .args .members .now) in let sound = sound-row y (s .pre .1 .0) (s .args .row) (s .pre .1 .1 .0) in
+    let some : 0 < bAt y (s .args .row) = omega (arith, c .before .b-at .ensures) in
+    rw (c .before .before .a-at .ensures, c .before .b-at .ensures)
+    (placing-first y (s .args .row) (sound .below) (sound .fits) (s .pre .1 .1 .1) (sound .members) some))
+    (λ c κs. search needs)
+    -- the member's row is below the struct's
+    (λ c κs. let s = c .before .before .before .before .before .before .before .before in let y = typeTable (s .args .rows .now) (s .args .members .now) in let sound = sound-row y (s .pre .1 .0) (s .args .row) (s .pre .1 .1 .0) in let i = c .before .before .loop in
+    let below = next-below y (s .args .row) (sound .below) (i .next) (i .left) (i .so-far) (i .inv) (omega arith) in
+    let named = c .row-of .ensures in
+    (omega (arith, s .pre .0, below, named), (s .pre .1 .0, omega (arith, s .pre .1 .1 .0, below, named))))
+    (λ c κs. let s = c .before .before .before .before .before .before .before .before .before in let y = typeTable (s .args .rows .now) (s .args .members .now) in let sound = sound-row y (s .pre .1 .0) (s .args .row) (s .pre .1 .1 .0) in let i = c .before .before .before .loop in
+    next-placeable y (s .args .row) (sound .below) (i .next) (i .left) (i .so-far) (i .inv) (omega arith) (c .row-layout .result)
+    (rw (c .row-layout .ensures, c .before .row-of .ensures)))
+    (λ c. omega arith)
+    (λ c. omega arith)
+    (λ c. omega arith)
+    (λ c. let s = c .before .before .before .before .before .before .before .before .before .before in let y = typeTable (s .args .rows .now) (s .args .members .now) in let sound = sound-row y (s .pre .1 .0) (s .args .row) (s .pre .1 .1 .0) in let i = c .before .before .before .before .loop in
+    rw (c .place .ensures)
+    (placing-next y (s .args .row) (sound .below) (i .next) (i .left) (i .so-far) (i .inv) (omega arith) (c .before .row-layout .result)
+    (rw (c .before .row-layout .ensures, c .before .before .row-of .ensures))))
+    (λ c κs. let s = c .before .before .before .before .before .before .before in let y = typeTable (s .args .rows .now) (s .args .members .now) in let sound = sound-row y (s .pre .1 .0) (s .args .row) (s .pre .1 .1 .0) in let i = c .before .loop in
+    closeable y (s .args .row) (sound .below) (i .next) (i .left) (i .so-far) (i .inv))
+    (λ c. let s = c .before .before .before .before .before .before .before .before in let y = typeTable (s .args .rows .now) (s .args .members .now) in let sound = sound-row y (s .pre .1 .0) (s .args .row) (s .pre .1 .1 .0) in let i = c .before .before .loop in
+    c .close .ensures ∙ placing-last y (s .args .row) (sound .below) (i .next) (i .left) (i .so-far) (i .inv) (omega arith)))
