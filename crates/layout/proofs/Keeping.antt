@@ -14,11 +14,15 @@ use Rattle.rules.specs.declared.Fault.{Fault}
 use Rattle.rules.specs.declared.Layout.{Layout}
 use Rattle.rules.specs.Refusals.{accepted, refused, if_then_else_}
 use Rattle.rules.specs.TypeTable.{TypeTable, rowCount}
-use Rattle.rules.specs.Sizes.{layout, layoutOf}
+use Rattle.rules.specs.Sizes.{layout, layoutOf, sizeOf}
 use Rattle.rules.specs.Sound.{rowSound, soundness}
+use Rattle.layout.specs.declared.Soundness.{Soundness}
+use Rattle.layout.specs.declared.Soundness.the-variants.{Sound, Refused}
 use Rattle.layout.specs.declared.kept.Judged.{Judged}
 use Rattle.layout.specs.declared.kept.Judged.the-variants.{Laid, Bad}
-use Rattle.layout.specs.Kept.{keptIf, keptFrom, Fits, SoundBelow, PartBelow, KeptBelow, judgedIf, judged}
+use Rattle.layout.specs.Kept.{verdictOf, keptIf, keptFrom, keptSizes, keptAlignments, Fits, SoundBelow, PartBelow, KeptBelow, judgedIf, judged}
+use Rattle.layout.proofs.Rows.{lists-whole, sound-lists, sound-rows}
+use Rattle.layout.proofs.Bounds.{Bounded, bounded}
 
 -- ---- one list
 
@@ -118,3 +122,30 @@ judged-bad-case false whole e = refl
 
 pub judged-bad : (t : TypeTable) (row : ℕ) (r : Judged) → r ≡ judged t row → r ≡ Bad → rowSound t row ≡ false
 judged-bad t row r e q = judged-bad-case (rowSound t row) (layoutOf t row) (sym e ∙ q)
+
+-- ---- for who reads what was prepared
+
+pub verdict-sound : (t : TypeTable) (v : Soundness) → verdictOf v ≡ soundness t → v ≡ Sound → soundness t ≡ accepted tt
+verdict-sound t v e q = sym e ∙ ap verdictOf q
+
+pub verdict-refused : (t : TypeTable) (v : Soundness) (f : Fault) → verdictOf v ≡ soundness t → v ≡ Refused f → soundness t ≡ refused f
+verdict-refused t v f e q = sym e ∙ ap verdictOf q
+
+-- The kept numbers of a row in use are its size and its alignment, within their bounds.
+module _ (t : TypeTable) (sound : soundness t ≡ accepted tt) (row : ℕ) (h : row < rowCount t) where
+  kept-part : (part : Layout → ℕ) → getD (keptFrom part t 0 256) row 0 ≡ part (layoutOf t row)
+  kept-part part =
+      kept-get part t 0 256 row (omega (arith, lists-whole t (sound-lists t sound) .rows))
+      ∙ ap (kept part t) (zero-add row)
+      ∙ rw (sound, lt-ltb row (rowCount t) h)
+
+  pub kept-size : getD (keptSizes t) row 0 ≡ sizeOf t row
+  unfolding keptSizes
+  kept-size = kept-part (λ l. l .size)
+
+  pub kept-alignment : getD (keptAlignments t) row 0 ≡ layoutOf t row .alignment
+  unfolding keptAlignments
+  kept-alignment = kept-part (λ l. l .alignment)
+
+  pub sound-bounded : Bounded (layoutOf t row)
+  sound-bounded = bounded t (rowCount t) (sound-rows t sound) row h
