@@ -2,15 +2,15 @@
 -- Assumes nothing.
 use mathlib.Core.Bool.{Bool, true, false, _&&_, _||_}
 use mathlib.Core.List.{List, [], _∷_}
-use mathlib.Core.Path.{_≡_, refl, ap, sym, subst, _∙_}
-use Prim.Native.Nat.{ℕ, zero, suc, _+_, _-_, _*_, _≤_, _<_, max}
+use mathlib.Core.Path.{_≡_, refl, sym, subst}
+use Prim.Native.Nat.{ℕ, zero, suc, _≤_, _<_, max}
 use native.Mathlib.Nat.{not-suc-le-zero, max-eq-left, max-eq-right, mul-le-mul, le-of-lt}
 use native.Mathlib.Omega.{arith}
 use lib.Dec.{eqb, leb, ltb}
 use borrow.Author.Tests.{eqb-true, eqb-false, leb-true, leb-false, ltb-true, ltb-false}
 use Rattle.rules.specs.declared.Layout.{Layout}
 use Rattle.rules.specs.TypeTable.{TypeTable, bAt, cAt, rowOf, FidlType, bool, number, handle, array, vector, string, struct, box, table, union, none, typeOf, memberRows}
-use Rattle.rules.specs.Sizes.{layout, largestAlignment, fieldsFrom, fieldsOf, fieldsSize, structSize, layoutAs, layoutBelow, layoutOf, sizeOf}
+use Rattle.rules.specs.Sizes.{largestAlignment, fieldsFrom, fieldsOf, fieldsSize, structSize, layoutAs, layoutBelow, layoutOf}
 use Rattle.rules.specs.Sound.{structMembers, rowFits, rowSound}
 use Rattle.layout.specs.Kept.{SoundBelow}
 use Rattle.layout.proofs.Rows.{both, sound-fits, sound-size, layout-below, layout-outside, layout-step, array-fits, struct-fits, member-fits}
@@ -55,47 +55,53 @@ number-alignment t row width e =
 
 -- ---- one row, whose inner rows are laid out by `inner`
 
-module _ (t : TypeTable) (row : ℕ) (inner : ℕ → Layout) (aligned : (r : ℕ) → Alignment (inner r .alignment)) (some : (r : ℕ) → r < row → 1 ≤ inner r .size) where
-  largest-alignment : (rows : List ℕ) → Alignment (largestAlignment inner rows)
-  unfolding largestAlignment
-  largest-alignment [] = one
-  largest-alignment (r ∷ rows) = larger-alignment (aligned r) (largest-alignment rows)
+module _
+    (t : TypeTable)
+    (row : ℕ)
+    (inner : ℕ → Layout)
+    (aligned : (r : ℕ) → Alignment (inner r .alignment))
+    (some : (r : ℕ) → r < row → 1 ≤ inner r .size)
+  where
+    largest-alignment : (rows : List ℕ) → Alignment (largestAlignment inner rows)
+    unfolding largestAlignment
+    largest-alignment [] = one
+    largest-alignment (r ∷ rows) = larger-alignment (aligned r) (largest-alignment rows)
 
-  row-alignment : (type : FidlType) → rowFits t row type ≡ true → Alignment (layoutAs t inner type .alignment)
-  unfolding rowFits layoutAs
-  row-alignment bool e = one
-  row-alignment (number width) e = number-alignment t row width e
-  row-alignment (handle optional) e = four
-  row-alignment (array element count) e = aligned element
-  row-alignment (vector element largest optional) e = eight
-  row-alignment (string largest optional) e = eight
-  row-alignment (struct first count) e = largest-alignment (memberRows t first count)
-  row-alignment (box element) e = eight
-  row-alignment (table first count) e = eight
-  row-alignment (union first count optional flexible) e = eight
-  row-alignment none e = one
+    row-alignment : (type : FidlType) → rowFits t row type ≡ true → Alignment (layoutAs t inner type .alignment)
+    unfolding rowFits layoutAs
+    row-alignment bool e = one
+    row-alignment (number width) e = number-alignment t row width e
+    row-alignment (handle optional) e = four
+    row-alignment (array element count) e = aligned element
+    row-alignment (vector element largest optional) e = eight
+    row-alignment (string largest optional) e = eight
+    row-alignment (struct first count) e = largest-alignment (memberRows t first count)
+    row-alignment (box element) e = eight
+    row-alignment (table first count) e = eight
+    row-alignment (union first count optional flexible) e = eight
+    row-alignment none e = one
 
-  struct-some : (first count : ℕ) → structMembers t row first count 1 ≡ true → 1 ≤ structSize inner (fieldsOf inner (memberRows t first count))
-  unfolding structSize fieldsOf fieldsFrom fieldsSize memberRows
-  struct-some first zero e = omega arith
-  struct-some first (suc count) e =
-      omega (arith, some (rowOf t first) (member-fits t row first (suc count) 1 (omega arith) e .below))
+    struct-some : (first count : ℕ) → structMembers t row first count 1 ≡ true → 1 ≤ structSize inner (fieldsOf inner (memberRows t first count))
+    unfolding structSize fieldsOf fieldsFrom fieldsSize memberRows
+    struct-some first zero e = omega arith
+    struct-some first (suc count) e =
+        omega (arith, some (rowOf t first) (member-fits t row first (suc count) 1 (omega arith) e .below))
 
-  row-some : (type : FidlType) → rowFits t row type ≡ true → 1 ≤ layoutAs t inner type .size
-  unfolding rowFits layoutAs
-  row-some bool e = omega arith
-  row-some (number width) e = alignment-bounds (number-alignment t row width e) .0
-  row-some (handle optional) e = omega arith
-  row-some (array element count) e =
-      let fits = array-fits t row element count e in
-      mul-le-mul (fits .some) (some element (fits .below))
-  row-some (vector element largest optional) e = omega arith
-  row-some (string largest optional) e = omega arith
-  row-some (struct first count) e = struct-some first count (struct-fits t row first count e .members)
-  row-some (box element) e = omega arith
-  row-some (table first count) e = omega arith
-  row-some (union first count optional flexible) e = omega arith
-  row-some none e = let z : false ≡ true = e in let z' : _≡_ {A = ℕ} 0 1 = cc in absurd (omega arith)
+    row-some : (type : FidlType) → rowFits t row type ≡ true → 1 ≤ layoutAs t inner type .size
+    unfolding rowFits layoutAs
+    row-some bool e = omega arith
+    row-some (number width) e = alignment-bounds (number-alignment t row width e) .0
+    row-some (handle optional) e = omega arith
+    row-some (array element count) e =
+        let fits = array-fits t row element count e in
+        mul-le-mul (fits .some) (some element (fits .below))
+    row-some (vector element largest optional) e = omega arith
+    row-some (string largest optional) e = omega arith
+    row-some (struct first count) e = struct-some first count (struct-fits t row first count e .members)
+    row-some (box element) e = omega arith
+    row-some (table first count) e = omega arith
+    row-some (union first count optional flexible) e = omega arith
+    row-some none e = let z : false ≡ true = e in let z' : _≡_ {A = ℕ} 0 1 = cc in absurd (omega arith)
 
 -- ---- all rows
 

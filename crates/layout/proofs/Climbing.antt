@@ -14,14 +14,16 @@ use Rattle.rules.specs.declared.Place.the-variants.{Row}
 use Rattle.rules.specs.declared.Layout.{Layout}
 use Rattle.rules.specs.Refusals.{tableNotSound, fault, accepted, refused, require}
 use Rattle.rules.specs.TypeTable.{TypeTable, rowCount}
-use Rattle.rules.specs.Sizes.{layoutOf}
 use Rattle.rules.specs.Sound.{listsWhole, rowSound, rowsSound, soundness}
 use Rattle.layout.specs.declared.Prepared.{Prepared}
 use Rattle.layout.specs.declared.Soundness.the-variants.{Sound}
-use Rattle.layout.specs.Kept.{verdictOf, keptSizes, keptAlignments, refusedAt, SoundBelow, KeptBelow}
+use Rattle.layout.specs.declared.kept.Judged.{Judged}
+use Rattle.layout.specs.declared.kept.Judged.the-variants.{Laid, Bad}
+use Rattle.layout.specs.Answers.{verdictOf, keptSizes, keptAlignments}
+use Rattle.layout.specs.Kept.{SoundBelow, KeptBelow, judged, refusedAt}
 use Rattle.layout.proofs.Rows.{lists-whole}
 use Rattle.layout.proofs.Bounds.{Bounded, alignment-bounds, row-bounded, bounded}
-use Rattle.layout.proofs.Keeping.{part-start, part-next, part-sound, part-refused}
+use Rattle.layout.proofs.Keeping.{part-start, part-next, part-sound, part-refused, judged-laid, judged-bad}
 
 -- The rows below `row` are sound and kept; the verdict hangs on the others.
 pub record Climbing (t : TypeTable) (row : ℕ) (sizes alignments : List ℕ) : Type 0 where
@@ -63,7 +65,7 @@ sound-case : (t : TypeTable) (row : ℕ) → SoundBelow t row → rowSound t row
 sound-case t row earlier sound r true e h = ap (rowSound t) (eqb-true r row e) ∙ sound
 sound-case t row earlier sound r false e h = let other = eqb-false r row e in earlier r (omega arith)
 
-module _ (t : TypeTable) (row : ℕ) (sizes alignments : List ℕ) (c : Climbing t row sizes alignments) where
+module _ {t : TypeTable} {row : ℕ} {sizes alignments : List ℕ} (c : Climbing t row sizes alignments) where
   pub few-rows : row ≤ 256
   few-rows = omega (arith, c .within, lists-whole t (c .whole) .rows)
 
@@ -74,32 +76,37 @@ module _ (t : TypeTable) (row : ℕ) (sizes alignments : List ℕ) (c : Climbing
     pub row-kept : row < 256
     row-kept = omega (arith, lists-whole t (c .whole) .rows)
 
-    -- The row's layout fits the lists.
-    pub row-fits-lists : (l : Layout) → rowSound t row ≡ true → l ≡ layoutOf t row → (l .size ≤ 65528) × (l .alignment ≤ 8)
-    row-fits-lists l sound e =
-        let b : Bounded l = rw e (row-bounded t row sound (bounded t row (c .kept .sound))) in
-        (b .most, alignment-bounds (b .alignment) .1)
-
     row-verdict : soundness t ≡ require (rowSound t row) (fault tableNotSound (Row row)) (rowsSound t (row + 1) (rowCount t - row - 1))
     row-verdict = c .verdict ∙ rows-step t row (rowCount t - row) (omega arith)
 
-    pub row-refused : rowSound t row ≡ false → soundness t ≡ refused (fault tableNotSound (Row row))
-    row-refused bad = row-verdict ∙ rw bad
+    module _ (r : Judged) (e : r ≡ judged t row) where
+      pub row-refused : r ≡ Bad → soundness t ≡ refused (fault tableNotSound (Row row))
+      row-refused bad = row-verdict ∙ rw (judged-bad t row r e bad)
 
-    pub climbing-next : (size alignment : ℕ) → rowSound t row ≡ true → size ≡ layoutOf t row .size → alignment ≡ layoutOf t row .alignment
-        → Climbing t (row + 1) (set sizes row size) (set alignments row alignment)
-    climbing-next size alignment sound s a =
-        let rest : rowCount t - row - 1 ≡ rowCount t - (row + 1) = omega arith in
-        record {
-          whole = c .whole;
-          within = omega arith;
-          verdict = row-verdict ∙ rw (sound, rest);
-          kept = record {
-            sound = λ r l. sound-case t row (c .kept .sound) sound r (eqb r row) refl l;
-            size = part-next (λ l. l .size) t row sizes size (c .kept .size) row-kept s;
-            alignment = part-next (λ l. l .alignment) t row alignments alignment (c .kept .alignment) row-kept a;
-          };
-        }
+      module _ (l : Layout) (laid : r ≡ Laid l) where
+        -- The row's layout fits the lists,
+        pub row-fits-lists : (l .size ≤ 65528) × (l .alignment ≤ 8)
+        row-fits-lists =
+            let sound = judged-laid t row r l e laid in
+            let b : Bounded l = rw (sound .1) (row-bounded t row (sound .0) (bounded t row (c .kept .sound))) in
+            (b .most, alignment-bounds (b .alignment) .1)
+
+        -- and is kept there.
+        pub climbing-next : Climbing t (row + 1) (set sizes row (l .size)) (set alignments row (l .alignment))
+        climbing-next =
+            let sound = judged-laid t row r l e laid in
+            let rest : rowCount t - row - 1 ≡ rowCount t - (row + 1) = omega arith in
+            let kept = c .kept in
+            record {
+              whole = c .whole;
+              within = omega arith;
+              verdict = row-verdict ∙ rw (sound .0, rest);
+              kept = record {
+                sound = λ x below. sound-case t row (kept .sound) (sound .0) x (eqb x row) refl below;
+                size = part-next (λ x. x .size) t row sizes (l .size) (kept .size) row-kept (ap (λ x. x .size) (sound .1));
+                alignment = part-next (λ x. x .alignment) t row alignments (l .alignment) (kept .alignment) row-kept (ap (λ x. x .alignment) (sound .1));
+              };
+            }
 
   pub climbing-last : rowCount t ≤ row → (row ≡ rowCount t) × (soundness t ≡ accepted tt)
   climbing-last h =
@@ -112,15 +119,19 @@ module _ (t : TypeTable) (row : ℕ) (sizes alignments : List ℕ) (c : Climbing
 abbrev pub Promised : TypeTable → Prepared → Type 0
 Promised t p = (verdictOf (p .verdict) ≡ soundness t) × ((p .sizes ≡ keptSizes t) × (p .alignments ≡ keptAlignments t))
 
-pub refused-promised : (t : TypeTable) (p : Prepared) (row : ℕ) → p ≡ refusedAt row → soundness t ≡ refused (fault tableNotSound (Row row)) → Promised t p
+pub refused-promised : (t : TypeTable) (p : Prepared) (row : ℕ) → p ≡ refusedAt row
+    → soundness t ≡ refused (fault tableNotSound (Row row)) → Promised t p
 unfolding keptSizes keptAlignments
 refused-promised t p row e bad =
-    rw e (sym bad, (part-refused (λ l. l .size) t (fault tableNotSound (Row row)) bad, part-refused (λ l. l .alignment) t (fault tableNotSound (Row row)) bad))
+    let f = fault tableNotSound (Row row) in
+    rw e (sym bad, (part-refused (λ l. l .size) t f bad, part-refused (λ l. l .alignment) t f bad))
 
-pub sound-promised : (t : TypeTable) (row : ℕ) (sizes alignments : List ℕ) → Climbing t row sizes alignments → rowCount t ≤ row
+pub sound-promised : {t : TypeTable} {row : ℕ} {sizes alignments : List ℕ} → Climbing t row sizes alignments → rowCount t ≤ row
     → Promised t (record { verdict = Sound; sizes = sizes; alignments = alignments })
 unfolding keptSizes keptAlignments
-sound-promised t row sizes alignments c h =
-    let last = climbing-last t row sizes alignments c h in
+sound-promised {t} {row} {sizes} {alignments} c h =
+    let last = climbing-last c h in
     let k : KeptBelow t (rowCount t) sizes alignments = rw (last .0) at (c .kept) in
-    (sym (last .1), (part-sound (λ l. l .size) t sizes (last .1) (k .size), part-sound (λ l. l .alignment) t alignments (last .1) (k .alignment)))
+    let size = part-sound (λ l. l .size) t sizes (last .1) (k .size) in
+    let alignment = part-sound (λ l. l .alignment) t alignments (last .1) (k .alignment) in
+    (sym (last .1), (size, alignment))

@@ -3,7 +3,6 @@
 use mathlib.Core.Bool.{true}
 use mathlib.Core.Path.{_≡_, ap, _∙_}
 use Prim.Native.Nat.{ℕ, _*_, _≤_, _<_}
-use Rattle.rules.specs.declared.Layout.{Layout}
 use Rattle.rules.specs.TypeTable.{TypeTable, kindAt, aAt, bAt, array, typeOf}
 use Rattle.rules.specs.Sizes.{layout, layoutAs, layoutBelow, layoutOf}
 use Rattle.rules.specs.Sound.{rowFits}

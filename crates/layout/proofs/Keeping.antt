@@ -1,18 +1,18 @@
 -- The numbers that are kept of a type table: how they grow row by row, and what a reader of them learns.
 -- Assumes nothing.
 use mathlib.Core.Bool.{Bool, true, false}
-use mathlib.Core.List.{List, [], _∷_}
+use mathlib.Core.List.{List}
 use mathlib.Core.Path.{_≡_, refl, ap, sym, _∙_}
-use Prim.Native.Nat.{ℕ, zero, suc, _+_, _≤_, _<_}
-use native.Mathlib.Nat.{not-suc-le-zero, add-zero, zero-add, add-suc, suc-add}
+use Prim.Native.Nat.{ℕ, zero, suc, _+_, _<_}
+use native.Mathlib.Nat.{not-suc-le-zero, add-zero, zero-add}
 use native.Mathlib.Omega.{arith}
 use lib.Dec.{eqb, leb, ltb}
-use lib.ListN.{getD, length, replicate, set, length-set, length-replicate, getD-replicate, List·getD-eq-default}
+use lib.ListN.{getD, length, replicate, set, length-set, length-replicate}
 use lib.Seq.{ext-getD, getD-set-same, getD-set-other}
-use borrow.Author.Tests.{eqb-true, eqb-false, lt-ltb, le-ltb, ltb-true, ltb-false}
+use borrow.Author.Tests.{eqb-true, eqb-false, lt-ltb, ltb-true, ltb-false}
 use Rattle.rules.specs.declared.Fault.{Fault}
 use Rattle.rules.specs.declared.Layout.{Layout}
-use Rattle.rules.specs.Refusals.{accepted, refused, if_then_else_}
+use Rattle.rules.specs.Refusals.{accepted, refused}
 use Rattle.rules.specs.TypeTable.{TypeTable, rowCount}
 use Rattle.rules.specs.Sizes.{layout, layoutOf, sizeOf}
 use Rattle.rules.specs.Sound.{rowSound, soundness}
@@ -20,7 +20,8 @@ use Rattle.layout.specs.declared.Soundness.{Soundness}
 use Rattle.layout.specs.declared.Soundness.the-variants.{Sound, Refused}
 use Rattle.layout.specs.declared.kept.Judged.{Judged}
 use Rattle.layout.specs.declared.kept.Judged.the-variants.{Laid, Bad}
-use Rattle.layout.specs.Kept.{verdictOf, keptIf, keptFrom, keptSizes, keptAlignments, Fits, SoundBelow, PartBelow, KeptBelow, judgedIf, judged}
+use Rattle.layout.specs.Answers.{verdictOf, keptIf, keptFrom, keptSizes, keptAlignments}
+use Rattle.layout.specs.Kept.{Fits, PartBelow, KeptBelow, judgedIf, judged}
 use Rattle.layout.proofs.Rows.{lists-whole, sound-lists, sound-rows}
 use Rattle.layout.proofs.Bounds.{Bounded, bounded}
 
@@ -96,9 +97,9 @@ module _ (part : Layout → ℕ) (t : TypeTable) where
 -- ---- a row below the bound
 
 -- What is kept of it is its layout.
-pub kept-row : (t : TypeTable) (bound : ℕ) (sizes alignments : List ℕ) → KeptBelow t bound sizes alignments
+pub kept-row : {t : TypeTable} {bound : ℕ} {sizes alignments : List ℕ} → KeptBelow t bound sizes alignments
     → (row : ℕ) → row < bound → layout (getD sizes row 0) (getD alignments row 0) ≡ layoutOf t row
-kept-row t bound sizes alignments k row h = rw (k .size .kept row h, k .alignment .kept row h)
+kept-row k row h = rw (k .size .kept row h, k .alignment .kept row h)
 
 -- A row that fits is sound when its size is small enough.
 pub judged-by-size : (t : TypeTable) (row : ℕ) (l : Layout) (small : Bool) → Fits t row → l ≡ layoutOf t row → leb (l .size) 65528 ≡ small

@@ -1,8 +1,8 @@
 -- The layout of a struct that fits, on the way through its members: what holds before each of them.
 -- Assumes nothing.
 use mathlib.Core.Bool.{true}
-use mathlib.Core.Path.{_≡_, refl, ap, sym, _∙_}
-use Prim.Native.Nat.{ℕ, _+_, _-_, _*_, _≤_, _<_, max}
+use mathlib.Core.Path.{_≡_, ap, sym, _∙_}
+use Prim.Native.Nat.{ℕ, _+_, _-_, _*_, _≤_, _<_}
 use native.Mathlib.Omega.{arith}
 use Rattle.rules.specs.declared.Layout.{Layout}
 use Rattle.rules.specs.TypeTable.{TypeTable, memberCount, kindAt, aAt, bAt, rowOf, struct, typeOf, memberRows}
@@ -25,6 +25,7 @@ empty-struct t row e none = layout-step t row ∙ rw (struct-row t row e, none)
 
 -- `left` members are still to be placed, from `next` on; those before them make `before`.
 pub record Placing (t : TypeTable) (row next left : ℕ) (before : Layout) : Type 0 where
+  pub sound : SoundBelow t row
   pub whole : layoutOf t row ≡ closed (placedAll (layoutBelow t row) before (memberRows t next left))
   pub ordinal : ℕ
   pub members : structMembers t row next left ordinal ≡ true
@@ -33,53 +34,56 @@ pub record Placing (t : TypeTable) (row next left : ℕ) (before : Layout) : Typ
   pub least : 1 ≤ before .alignment
   pub most : before .alignment ≤ 8
 
-module _ (t : TypeTable) (row : ℕ) (sound : SoundBelow t row) where
-  pub placing-first : Fits t row → kindAt t row ≡ 7 → memberCount t ≤ 1024 → 0 < bAt t row → Placing t row (aAt t row) (bAt t row) (layout 0 1)
-  placing-first fits kind members some =
-      let line : rowFits t row (struct (aAt t row) (bAt t row)) ≡ true = rw (struct-row t row kind) at fits in
-      let parts = struct-fits t row (aAt t row) (bAt t row) line in
-      record {
-        whole = layout-step t row ∙ ap (layoutAs t (layoutBelow t row)) (struct-row t row kind)
-            ∙ struct-closed (layoutBelow t row) (aligned-below t row sound) t (aAt t row) (bAt t row) some;
-        ordinal = 1;
-        members = parts .members;
-        few = omega (arith, parts .exist);
-        end = omega (arith, parts .exist);
-        least = omega arith;
-        most = omega arith;
-      }
+pub placing-first : (t : TypeTable) (row : ℕ) → SoundBelow t row → Fits t row → kindAt t row ≡ 7 → memberCount t ≤ 1024 → 0 < bAt t row
+    → Placing t row (aAt t row) (bAt t row) (layout 0 1)
+placing-first t row sound fits kind members some =
+    let line : rowFits t row (struct (aAt t row) (bAt t row)) ≡ true = rw (struct-row t row kind) at fits in
+    let parts = struct-fits t row (aAt t row) (bAt t row) line in
+    record {
+      sound = sound;
+      whole = layout-step t row
+          ∙ ap (layoutAs t (layoutBelow t row)) (struct-row t row kind)
+          ∙ struct-closed (layoutBelow t row) (aligned-below t row sound) t (aAt t row) (bAt t row) some;
+      ordinal = 1;
+      members = parts .members;
+      few = omega (arith, parts .exist);
+      end = omega (arith, parts .exist);
+      least = omega arith;
+      most = omega arith;
+    }
 
-  module _ (next left : ℕ) (before : Layout) (p : Placing t row next left before) where
-    pub next-below : 0 < left → rowOf t next < row
-    next-below h = member-fits t row next left (p .ordinal) h (p .members) .below
+module _ {t : TypeTable} {row next left : ℕ} {before : Layout} (p : Placing t row next left before) where
+  pub placing-last : left ≡ 0 → closed before ≡ layoutOf t row
+  placing-last none = sym (p .whole ∙ rw (none, placed-none))
 
-    -- What placing the next member, and closing the struct after the last, ask for.
-    pub next-placeable : 0 < left → (member : Layout) → member ≡ layoutOf t (rowOf t next)
-        → (0 < member .alignment) × (member .alignment ≤ 8) × (member .size ≤ 65528) × (before .size ≤ 67108864)
-    next-placeable h member e =
-        let b : Bounded member = rw e (bounded t row sound (rowOf t next) (next-below h)) in
-        let alignment = alignment-bounds (b .alignment) in
-        omega (arith, b .most, p .end)
+  -- What closing the struct after its last member asks for.
+  pub closeable : (0 < before .alignment) × (before .alignment ≤ 8) × (before .size ≤ 67108864)
+  closeable = omega (arith, p .end, p .least, p .most)
 
-    pub closeable : (0 < before .alignment) × (before .alignment ≤ 8) × (before .size ≤ 67108864)
-    closeable = omega (arith, p .end, p .least, p .most)
+  module _ (some : 0 < left) where
+    pub next-below : rowOf t next < row
+    next-below = member-fits t row next left (p .ordinal) some (p .members) .below
 
-    pub placing-next : 0 < left → (member : Layout) → member ≡ layoutOf t (rowOf t next)
-        → Placing t row (next + 1) (left - 1) (placed before member)
-    placing-next h member e =
-        let inner = layoutBelow t row in
-        let same : inner (rowOf t next) ≡ member = layout-below t row (rowOf t next) (next-below h) ∙ sym e in
-        let small = next-placeable h member e in
-        record {
-          whole = p .whole ∙ ap closed (placed-step inner t before next left h)
-              ∙ ap (λ l. closed (placedAll inner (placed before l) (memberRows t (next + 1) (left - 1)))) same;
-          ordinal = p .ordinal + 1;
-          members = member-fits t row next left (p .ordinal) h (p .members) .rest;
-          few = omega (arith, p .few);
-          end = omega (arith, p .end, round-most (before .size) (small .0));
-          least = omega (arith, p .least);
-          most = omega (arith, p .most);
-        }
+    module _ (member : Layout) (e : member ≡ layoutOf t (rowOf t next)) where
+      -- What placing the next member asks for.
+      pub placeable : (0 < member .alignment) × (member .alignment ≤ 8) × (member .size ≤ 65528) × (before .size ≤ 67108864)
+      placeable =
+          let b : Bounded member = rw e (bounded t row (p .sound) (rowOf t next) next-below) in
+          let alignment = alignment-bounds (b .alignment) in
+          omega (arith, b .most, p .end)
 
-    pub placing-last : left ≡ 0 → closed before ≡ layoutOf t row
-    placing-last none = sym (p .whole ∙ rw (none, placed-none))
+      pub placing-next : Placing t row (next + 1) (left - 1) (placed before member)
+      placing-next =
+          let inner = layoutBelow t row in
+          let same : inner (rowOf t next) ≡ member = layout-below t row (rowOf t next) next-below ∙ sym e in
+          let rest : Layout → Layout = λ l. closed (placedAll inner (placed before l) (memberRows t (next + 1) (left - 1))) in
+          record {
+            sound = p .sound;
+            whole = p .whole ∙ ap closed (placed-step inner t before next left some) ∙ ap rest same;
+            ordinal = p .ordinal + 1;
+            members = member-fits t row next left (p .ordinal) some (p .members) .rest;
+            few = omega (arith, p .few);
+            end = omega (arith, p .end, placeable, round-most (before .size) (placeable .0));
+            least = omega (arith, p .least);
+            most = omega (arith, p .most, placeable);
+          }

@@ -1,8 +1,8 @@
 -- Laws of the rules' definitions: recursion over rows, and what the soundness of a type table says of each row.
 -- Assumes nothing.
-use mathlib.Core.Bool.{Bool, true, false, _&&_, _||_}
+use mathlib.Core.Bool.{Bool, true, false, _&&_}
 use mathlib.Core.Path.{_≡_, refl, ap, sym, _∙_}
-use Prim.Native.Nat.{ℕ, zero, suc, _+_, _-_, _*_, _/_, _%_, _≤_, _<_}
+use Prim.Native.Nat.{ℕ, zero, suc, _+_, _-_, _%_, _≤_, _<_}
 use native.Mathlib.Nat.{not-suc-le-zero}
 use native.Mathlib.Numerals.{sub-one, add-one}
 use native.Mathlib.Omega.{arith}
@@ -12,7 +12,7 @@ use borrow.Author.Tests.{eqb-true, eqb-false, leb-true, ltb-true, ne-eqb}
 use Rattle.rules.specs.declared.Fault.{Fault}
 use Rattle.rules.specs.declared.Layout.{Layout}
 use Rattle.rules.specs.Refusals.{Answer, accepted, refused, require, if_then_else_}
-use Rattle.rules.specs.TypeTable.{TypeTable, rowCount, memberCount, kindAt, aAt, bAt, cAt, rowOf, ordinalAt, FidlType, array, struct, none, typeAs, typeOf, below}
+use Rattle.rules.specs.TypeTable.{TypeTable, rowCount, memberCount, kindAt, aAt, bAt, cAt, rowOf, ordinalAt, array, struct, none, typeAs, typeOf, below}
 use Rattle.rules.specs.Sizes.{layout, layoutStep, layoutAs, layoutBelow, layoutOf, sizeOf}
 use Rattle.rules.specs.Sound.{listsWhole, structMembers, risingMembers, membersExist, rowFits, rowSound, rowsSound, soundness}
 use Rattle.layout.specs.Kept.{Fits, SoundBelow}

@@ -16,7 +16,9 @@ ghost use Rattle.rules.specs.Sound.{membersExist, structMembers, risingMembers,
 // A struct's members exist, "struct ordinals are 1, 2, 3 and on", and its members' rows have smaller numbers than its own.
 fn struct_members(members: &[u32], row: u32, first: u32, count: u32) -> bool
     requires { ⌜ length (now members) ≤ 2048 ⌝ }
-    ensures { λ r. ⌜ ((rows : List ℕ) → r ≡ (membersExist (typeTable rows (now (members .entry))) first count && structMembers (typeTable rows (now (members .entry))) row first count 1)) ⌝ }
+    ensures { λ r. ⌜ ((rows : List ℕ) →
+        let t = typeTable rows (now (members .entry)) in
+        r ≡ (membersExist t first count && structMembers t row first count 1)) ⌝ }
 {
     if members.len() / 2 < (first as usize) + (count as usize) {
         return false;
@@ -39,7 +41,9 @@ fn struct_members(members: &[u32], row: u32, first: u32, count: u32) -> bool
 // The members of a table or union exist, their "ordinals start at 1 or more and rise strictly", and their rows exist.
 fn rising_members(rows: &[u32], members: &[u32], first: u32, count: u32) -> bool
     requires { ⌜ length (now members) ≤ 2048 ⌝ }
-    ensures { λ r. ⌜ r ≡ (membersExist (typeTable (now (rows .entry)) (now (members .entry))) first count && risingMembers (typeTable (now (rows .entry)) (now (members .entry))) first count 0) ⌝ }
+    ensures { λ r.
+        let t = typeTable (now (rows .entry)) (now (members .entry)) in
+        ⌜ r ≡ (membersExist t first count && risingMembers t first count 0) ⌝ }
 {
     if members.len() / 2 < (first as usize) + (count as usize) {
         return false;
@@ -64,7 +68,9 @@ fn rising_members(rows: &[u32], members: &[u32], first: u32, count: u32) -> bool
 // The row's line of the table of kinds, with the cells that must be 0; no other kind has one.
 pub(crate) fn row_fits(rows: &[u32], members: &[u32], row: u32) -> bool
     requires { ⌜ length (now members) ≤ 2048 ⌝ }
-    ensures { λ r. ⌜ r ≡ rowFits (typeTable (now (rows .entry)) (now (members .entry))) row (typeOf (typeTable (now (rows .entry)) (now (members .entry))) row) ⌝ }
+    ensures { λ r.
+        let t = typeTable (now (rows .entry)) (now (members .entry)) in
+        ⌜ r ≡ rowFits t row (typeOf t row) ⌝ }
 {
     let kind = kind_at(rows, row);
     let a = a_at(rows, row);

@@ -16,7 +16,8 @@ ghost use mathlib.Core.Path.{_≡_};
 ghost use Rattle.rules.specs.TypeTable.{typeTable};
 ghost use Rattle.rules.specs.Sound.{soundness};
 ghost use Rattle.rules.specs.Answers.{layoutAnswer};
-ghost use Rattle.layout.specs.Kept.{verdictOf, answerOf, keptSizes, keptAlignments, refusedAt};
+ghost use Rattle.layout.specs.Answers.{verdictOf, answerOf, keptSizes, keptAlignments};
+ghost use Rattle.layout.specs.Kept.{refusedAt};
 
 // The verdict on a type table: sound, or refused with 1.
 pub enum Soundness {

@@ -59,7 +59,8 @@ pub(crate) fn array_layout(element: Layout, count: u32) -> Layout
 // Every kind but arrays and structs: its layout is the same whatever the other rows and numbers are.
 pub(crate) fn fixed_layout(kind: u32, a: u32) -> Layout
     requires { ⌜ (kind ≡ 4 → ⊥) × (kind ≡ 7 → ⊥) ⌝ }
-    ensures { λ r. ⌜ ((rows members : List ℕ) (inner : ℕ → Layout) (b c : ℕ) → r ≡ layoutAs (typeTable rows members) inner (typeAs kind a b c)) ⌝ }
+    ensures { λ r. ⌜ ((rows members : List ℕ) (inner : ℕ → Layout) (b c : ℕ) →
+        r ≡ layoutAs (typeTable rows members) inner (typeAs kind a b c)) ⌝ }
 {
     match kind {
         1 => Layout {

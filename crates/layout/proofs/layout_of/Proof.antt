@@ -1,10 +1,10 @@
 -- `layout::layout_of` meets its contract: 1, then 2, then the row's layout.
 -- Assumes nothing.
-use mathlib.Core.Path.{_≡_, refl, ap, sym, _∙_}
+use mathlib.Core.Path.{_≡_}
 use borrow.Author.Needs.{needs}
 use borrow.Author.Tests.{lt-ltb, le-ltb}
 use Rattle.rules.specs.Refusals.{accepted}
-use Rattle.rules.specs.TypeTable.{typeTable, rowCount}
+use Rattle.rules.specs.TypeTable.{typeTable}
 use Rattle.rules.specs.Sound.{soundness}
 use Rattle.rules.specs.Answers.{layoutAnswer}
 use Rattle.layout.proofs.Keeping.{verdict-sound, verdict-refused}
@@ -15,7 +15,9 @@ unsound : tie.Need-returns
 unfolding layoutAnswer
 unsound c =
     let a = c .before .before .before .before .before .before .args in
-    rw (verdict-refused (typeTable (a .rows .now) (a .members .now)) (c .before .before .before .prepare .result .verdict) (c .before .verdict .given .0 .0) (c .before .before .before .prepare .ensures .0) (search needs))
+    let t = typeTable (a .rows .now) (a .members .now) in
+    let p = c .before .before .before .prepare in
+    rw (verdict-refused t (p .result .verdict) (c .before .verdict .given .0 .0) (p .ensures .0) (search needs))
 
 sound : (c : tie.After-enum-told)
     → let a = c .before .before .before .before .before .args in soundness (typeTable (a .rows .now) (a .members .now)) ≡ accepted tt

@@ -1,16 +1,16 @@
 -- The proof of the cycle of calls of layouts: a row's kind says which rows it is made of, and those have smaller numbers.
 -- Assumes nothing.
-use mathlib.Core.Path.{_≡_, ap, sym, _∙_}
+use mathlib.Core.Path.{_≡_, sym, _∙_}
 use Prim.Native.Nat.{ℕ, _+_, _*_, _<_}
 use native.Mathlib.Omega.{arith}
 use borrow.Author.Needs.{needs}
 use borrow.Fn.Kinds.{In}
 use borrow.Fn.PlainCycle.{Measures, is, falls, and}
-use Rattle.rules.specs.TypeTable.{typeTable, kindAt, aAt, bAt, rowOf}
-use Rattle.rules.specs.Sizes.{layoutBelow, layoutOf}
+use Rattle.rules.specs.TypeTable.{typeTable, kindAt, bAt}
+use Rattle.rules.specs.Sizes.{layoutBelow}
 use Rattle.layout.proofs.Rows.{sound-row, layout-by-kind}
 use Rattle.layout.proofs.Elements.{element-below, element-size, array-layout}
-use Rattle.layout.proofs.Members.{Placing, empty-struct, placing-first, next-below, next-placeable, closeable, placing-next, placing-last}
+use Rattle.layout.proofs.Members.{Placing, empty-struct, placing-first, next-below, placeable, closeable, placing-next, placing-last}
 use Rattle.layout.proofs.calculator.row_layout.Reads as row-layout
 use Rattle.layout.proofs.calculator.row_layout.Kinds as row-layout-kinds
 use Rattle.layout.proofs.calculator.+row_layout+struct_layout.Lts-row_layout as row-layout-lts
@@ -79,26 +79,42 @@ pub +row-layout+struct-layout-spec : {M : Type 1} → statement M
     row-layout.Post
     (λ c κs. search needs)
     (λ c κs. search needs)
-    -- the element's row is below the array's
-    (λ c κs. let s = c .before .before .before .before .before in let y = typeTable (s .args .rows .now) (s .args .members .now) in let sound = sound-row y (s .pre .1 .0) (s .args .row) (s .pre .1 .1) in
+    -- an array: its element's row is below its own
+    (λ c κs.
+    let s = c .before .before .before .before .before in
+    let y = typeTable (s .args .rows .now) (s .args .members .now) in
+    let sound = sound-row y (s .pre .1 .0) (s .args .row) (s .pre .1 .1) in
     let kind : kindAt y (s .args .row) ≡ 4 = sym (c .before .before .kind-at .ensures) ∙ c .match .keys1 in
     let below = element-below y (s .args .row) kind (sound .fits) in
     let named = c .before .a-at .ensures in
     (omega (arith, s .pre .0, below, named), (s .pre .1 .0, omega (arith, s .pre .1 .1, below, named))))
     (λ c κs. search needs)
-    (λ c κs. let s = c .before .before .before .before .before .before .before in let y = typeTable (s .args .rows .now) (s .args .members .now) in let sound = sound-row y (s .pre .1 .0) (s .args .row) (s .pre .1 .1) in
+    (λ c κs.
+    let s = c .before .before .before .before .before .before .before in
+    let y = typeTable (s .args .rows .now) (s .args .members .now) in
+    let sound = sound-row y (s .pre .1 .0) (s .args .row) (s .pre .1 .1) in
     let kind : kindAt y (s .args .row) ≡ 4 = sym (c .before .before .before .before .kind-at .ensures) ∙ c .before .before .match .keys1 in
     rw (c .before .row-layout .ensures, c .before .before .before .a-at .ensures) (element-size y (s .args .row) kind (sound .fits) (sound .below)))
-    (λ c κs. let s = c .before .before .before .before .before in
+    -- a struct
+    (λ c κs.
+    let s = c .before .before .before .before .before in
     (omega (arith, s .pre .0), (s .pre .1 .0, (s .pre .1 .1, sym (c .before .before .kind-at .ensures) ∙ c .match .keys2))))
     (λ c κs. search needs)
-    (λ c. let s = c .before .before .before .before .before .before .before .before in let y = typeTable (s .args .rows .now) (s .args .members .now) in let sound = sound-row y (s .pre .1 .0) (s .args .row) (s .pre .1 .1) in
+    (λ c.
+    let s = c .before .before .before .before .before .before .before .before in
+    let y = typeTable (s .args .rows .now) (s .args .members .now) in
+    let sound = sound-row y (s .pre .1 .0) (s .args .row) (s .pre .1 .1) in
     let kind : kindAt y (s .args .row) ≡ 4 = sym (c .before .before .before .before .before .kind-at .ensures) ∙ c .before .before .before .match .keys1 in
-    rw (c .array-layout .ensures, c .before .before .row-layout .ensures, c .before .b-at .ensures, c .before .before .before .before .a-at .ensures) (sym (array-layout y (s .args .row) kind (sound .fits))))
+    rw (c .array-layout .ensures, c .before .before .row-layout .ensures, c .before .b-at .ensures, c .before .before .before .before .a-at .ensures)
+    (sym (array-layout y (s .args .row) kind (sound .fits))))
     (λ c. search needs)
-    (λ c. let s = c .before .before .before .before .before .before in let y = typeTable (s .args .rows .now) (s .args .members .now) in
-    layout-by-kind y (s .args .row) (c .before .before .before .kind-at .result) (c .before .before .a-at .result) (c .fixed-layout .result)
-    (c .before .before .before .kind-at .ensures) (c .before .before .a-at .ensures)
+    -- any other kind
+    (λ c.
+    let s = c .before .before .before .before .before .before in
+    let y = typeTable (s .args .rows .now) (s .args .members .now) in
+    let kind = c .before .before .before .kind-at in
+    let a = c .before .before .a-at in
+    layout-by-kind y (s .args .row) (kind .result) (a .result) (c .fixed-layout .result) (kind .ensures) (a .ensures)
     (c .fixed-layout .ensures (s .args .rows .now) (s .args .members .now) (layoutBelow y (s .args .row)))))
     (λ t. struct-layout-lts.spec (
       a-at-reads.Asked,
@@ -120,29 +136,33 @@ pub +row-layout+struct-layout-spec : {M : Type 1} → statement M
     struct-layout-μ-loop
     (λ c κs. search needs)
     (λ c κs. search needs)
-    (λ c. let s = c .before .before .before .before .before in let y = typeTable (s .args .rows .now) (s .args .members .now) in
+    -- an empty struct
+    (λ c.
+    let s = c .before .before .before .before .before in
+    let y = typeTable (s .args .rows .now) (s .args .members .now) in
     sym (empty-struct y (s .args .row) (s .pre .1 .1 .1) (sym (c .before .b-at .ensures) ∙ c .if1 .taken)))
-    (λ c. let s = c .before .before .before .before .before in let y = typeTable (s .args .rows .now) (s .args .members .now) in let sound = sound-row y (s .pre .1 .0) (s .args .row) (s .pre .1 .1 .0) in
+    (λ c.
+    let s = c .before .before .before .before .before in
+    let y = typeTable (s .args .rows .now) (s .args .members .now) in
+    let sound = sound-row y (s .pre .1 .0) (s .args .row) (s .pre .1 .1 .0) in
     let some : 0 < bAt y (s .args .row) = omega (arith, c .before .b-at .ensures) in
     rw (c .before .before .a-at .ensures, c .before .b-at .ensures)
     (placing-first y (s .args .row) (sound .below) (sound .fits) (s .pre .1 .1 .1) (sound .members) some))
     (λ c κs. search needs)
-    -- the member's row is below the struct's
-    (λ c κs. let s = c .before .before .before .before .before .before .before .before in let y = typeTable (s .args .rows .now) (s .args .members .now) in let sound = sound-row y (s .pre .1 .0) (s .args .row) (s .pre .1 .1 .0) in let i = c .before .before .loop in
-    let below = next-below y (s .args .row) (sound .below) (i .next) (i .left) (i .so-far) (i .inv) (omega arith) in
+    -- a member: its row is below the struct's
+    (λ c κs.
+    let s = c .before .before .before .before .before .before .before .before in
+    let below = next-below (c .before .before .loop .inv) (omega arith) in
     let named = c .row-of .ensures in
     (omega (arith, s .pre .0, below, named), (s .pre .1 .0, omega (arith, s .pre .1 .1 .0, below, named))))
-    (λ c κs. let s = c .before .before .before .before .before .before .before .before .before in let y = typeTable (s .args .rows .now) (s .args .members .now) in let sound = sound-row y (s .pre .1 .0) (s .args .row) (s .pre .1 .1 .0) in let i = c .before .before .before .loop in
-    next-placeable y (s .args .row) (sound .below) (i .next) (i .left) (i .so-far) (i .inv) (omega arith) (c .row-layout .result)
-    (rw (c .row-layout .ensures, c .before .row-of .ensures)))
+    (λ c κs.
+    placeable (c .before .before .before .loop .inv) (omega arith) (c .row-layout .result) (rw (c .row-layout .ensures, c .before .row-of .ensures)))
     (λ c. omega arith)
     (λ c. omega arith)
     (λ c. omega arith)
-    (λ c. let s = c .before .before .before .before .before .before .before .before .before .before in let y = typeTable (s .args .rows .now) (s .args .members .now) in let sound = sound-row y (s .pre .1 .0) (s .args .row) (s .pre .1 .1 .0) in let i = c .before .before .before .before .loop in
+    (λ c.
     rw (c .place .ensures)
-    (placing-next y (s .args .row) (sound .below) (i .next) (i .left) (i .so-far) (i .inv) (omega arith) (c .before .row-layout .result)
+    (placing-next (c .before .before .before .before .loop .inv) (omega arith) (c .before .row-layout .result)
     (rw (c .before .row-layout .ensures, c .before .before .row-of .ensures))))
-    (λ c κs. let s = c .before .before .before .before .before .before .before in let y = typeTable (s .args .rows .now) (s .args .members .now) in let sound = sound-row y (s .pre .1 .0) (s .args .row) (s .pre .1 .1 .0) in let i = c .before .loop in
-    closeable y (s .args .row) (sound .below) (i .next) (i .left) (i .so-far) (i .inv))
-    (λ c. let s = c .before .before .before .before .before .before .before .before in let y = typeTable (s .args .rows .now) (s .args .members .now) in let sound = sound-row y (s .pre .1 .0) (s .args .row) (s .pre .1 .1 .0) in let i = c .before .before .loop in
-    c .close .ensures ∙ placing-last y (s .args .row) (sound .below) (i .next) (i .left) (i .so-far) (i .inv) (omega arith)))
+    (λ c κs. closeable (c .before .loop .inv))
+    (λ c. c .close .ensures ∙ placing-last (c .before .before .loop .inv) (omega arith)))

@@ -1,7 +1,6 @@
 -- `layout::kept::kept_layout` meets its contract: the row's kind says whether inner rows count.
 -- Assumes nothing.
-use mathlib.Core.Path.{_≡_, ap, sym, _∙_}
-use native.Mathlib.Omega.{arith}
+use mathlib.Core.Path.{_≡_, sym, _∙_}
 use borrow.Author.Needs.{needs}
 use Rattle.rules.specs.TypeTable.{typeTable, kindAt, aAt}
 use Rattle.rules.specs.Sizes.{layoutBelow, layoutOf}
@@ -13,20 +12,21 @@ use Rattle.layout.proofs.kept.kept_layout.Tie as tie
 
 -- What was kept of the element's row is its layout.
 element : (c : tie.After-kept-at)
-    → let s = c .before .before .before .before .before .before in let t = typeTable (s .args .rows .now) (s .args .members .now) in
+    → let s = c .before .before .before .before .before .before in
+    let t = typeTable (s .args .rows .now) (s .args .members .now) in
     (kindAt t (s .args .row) ≡ 4) × (c .kept-at .result ≡ layoutOf t (aAt t (s .args .row)))
 element c =
-    let s = c .before .before .before .before .before .before in let t = typeTable (s .args .rows .now) (s .args .members .now) in
+    let s = c .before .before .before .before .before .before in
+    let t = typeTable (s .args .rows .now) (s .args .members .now) in
     let kind : kindAt t (s .args .row) ≡ 4 = sym (c .before .before .before .kind-at .ensures) ∙ c .before .match .keys1 in
-    let below = element-below t (s .args .row) kind (s .pre .1 .0) in (
-      kind,
-      rw (c .kept-at .ensures, c .before .before .a-at .ensures)
-          (kept-row t (s .args .row) (s .args .sizes .now) (s .args .alignments .now) (s .pre .0) (aAt t (s .args .row)) below),
-    )
+    let below = element-below t (s .args .row) kind (s .pre .1 .0) in
+    (kind, rw (c .kept-at .ensures, c .before .before .a-at .ensures) (kept-row (s .pre .0) (aAt t (s .args .row)) below))
 
 array-layout-requires : tie.Need-array-layout-requires
 array-layout-requires c κs =
-    let s = c .before .before .before .before .before .before .before in let t = typeTable (s .args .rows .now) (s .args .members .now) in let e = element (c .before) in
+    let s = c .before .before .before .before .before .before .before in
+    let t = typeTable (s .args .rows .now) (s .args .members .now) in
+    let e = element (c .before) in
     rw (e .1) (element-size t (s .args .row) (e .0) (s .pre .1 .0) (s .pre .0 .sound))
 
 kept-struct-requires : tie.Need-kept-struct-requires
@@ -36,14 +36,18 @@ kept-struct-requires c κs =
 
 array-returns : tie.Need-returns
 array-returns c =
-    let s = c .before .before .before .before .before .before .before .before in let t = typeTable (s .args .rows .now) (s .args .members .now) in let e = element (c .before .before) in
+    let s = c .before .before .before .before .before .before .before .before in
+    let t = typeTable (s .args .rows .now) (s .args .members .now) in
+    let e = element (c .before .before) in
     rw (c .array-layout .ensures, c .before .b-at .ensures, e .1) (sym (array-layout t (s .args .row) (e .0) (s .pre .1 .0)))
 
 fixed-returns : tie.Need-returns-3
 fixed-returns c =
-    let s = c .before .before .before .before .before .before in let t = typeTable (s .args .rows .now) (s .args .members .now) in
-    layout-by-kind t (s .args .row) (c .before .before .before .kind-at .result) (c .before .before .a-at .result) (c .fixed-layout .result)
-    (c .before .before .before .kind-at .ensures) (c .before .before .a-at .ensures)
+    let s = c .before .before .before .before .before .before in
+    let t = typeTable (s .args .rows .now) (s .args .members .now) in
+    let kind = c .before .before .before .kind-at in
+    let a = c .before .before .a-at in
+    layout-by-kind t (s .args .row) (kind .result) (a .result) (c .fixed-layout .result) (kind .ensures) (a .ensures)
     (c .fixed-layout .ensures (s .args .rows .now) (s .args .members .now) (layoutBelow t (s .args .row)))
 
 pub kept-layout-spec : {M : Type 1} → statement M

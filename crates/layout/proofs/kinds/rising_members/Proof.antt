@@ -2,14 +2,14 @@
 -- Assumes nothing.
 use mathlib.Core.Bool.{Bool, true, false, _&&_}
 use mathlib.Core.List.{List}
-use mathlib.Core.Path.{_≡_, refl, sym, _∙_}
+use mathlib.Core.Path.{_≡_, sym, _∙_}
 use Prim.Native.Nat.{ℕ, _+_, _-_, _/_}
 use native.Mathlib.Omega.{arith}
 use lib.Dec.{ltb}
 use lib.ListN.{length}
 use borrow.Author.Needs.{needs}
 use borrow.Author.Tests.{not-true, not-false, le-leb, lt-leb}
-use Rattle.rules.specs.TypeTable.{typeTable, rowCount}
+use Rattle.rules.specs.TypeTable.{typeTable}
 use Rattle.rules.specs.Sound.{membersExist, risingMembers}
 use Rattle.layout.proofs.Rows.{rising-step, rising-none}
 use Rattle.layout.proofs.kinds.rising_members.Statement.{statement}

@@ -1,11 +1,12 @@
 -- `layout::kinds::row_fits` meets its contract: the row's kind picks its line of the table of kinds.
 -- Assumes nothing.
-use mathlib.Core.Bool.{Bool, true, false, _&&_, and-false, and-assoc}
+use mathlib.Core.Bool.{Bool, true, false, _&&_, _||_, and-false, and-assoc}
 use mathlib.Core.Path.{_≡_, refl, ap, sym, _∙_}
-use Prim.Native.Nat.{ℕ}
-use lib.Dec.{eqb, leb}
+use Prim.Native.Nat.{ℕ, _/_}
+use lib.Dec.{eqb, leb, ltb}
+use lib.ListN.{length}
 use borrow.Author.Needs.{needs}
-use Rattle.rules.specs.TypeTable.{TypeTable, typeTable, cAt, struct, table, union, typeOf}
+use Rattle.rules.specs.TypeTable.{TypeTable, typeTable, rowCount, kindAt, aAt, bAt, cAt, struct, table, union, typeAs, typeOf}
 use Rattle.rules.specs.Sound.{membersExist, structMembers, risingMembers, rowFits}
 use Rattle.layout.proofs.Rows.{OtherKind, other-kind}
 use Rattle.layout.proofs.kinds.row_fits.Statement.{statement}
@@ -50,29 +51,62 @@ union-line t row first count optional flexible =
     ap (λ b. b && risingMembers t first count 0) (and-assoc (membersExist t first count) (leb 1 count) (leb (cAt t row) 3))
     ∙ exist-last (membersExist t first count) (leb 1 count && leb (cAt t row) 3) (risingMembers t first count 0)
 
-struct-arm : tie.Need-returns-7
+-- A line is the same of the numbers that were read and of those in the list.
+line : (c : tie.After-c-at) (kind : ℕ) → c .before .before .before .kind-at .result ≡ kind → (test : (a b c : ℕ) → Bool)
+    → let s = c .before .before .before .before .before .before in
+    let t = typeTable (s .args .rows .now) (s .args .members .now) in
+    let row = s .args .row in
+    test (aAt t row) (bAt t row) (cAt t row) ≡ rowFits t row (typeAs kind (aAt t row) (bAt t row) (cAt t row))
+    → test (c .before .before .a-at .result) (c .before .b-at .result) (c .c-at .result) ≡ rowFits t row (typeOf t row)
 unfolding typeOf
+line c kind e test same =
+    let s = c .before .before .before .before .before .before in
+    let t = typeTable (s .args .rows .now) (s .args .members .now) in
+    let row = s .args .row in
+    rw (c .before .before .a-at .ensures, c .before .b-at .ensures, c .c-at .ensures)
+    (same ∙ ap (λ k. rowFits t row (typeAs k (aAt t row) (bAt t row) (cAt t row))) (sym e ∙ c .before .before .before .kind-at .ensures))
+
+struct-arm : tie.Need-returns-7
 struct-arm c =
-    let a = c .before .before .before .before .before .before .before .before .args in
-    rw (← c .before .before .before .before .before .kind-at .ensures, c .before .match .keys7, ← c .before .before .before .before .a-at .ensures, ← c .before .before .before .b-at .ensures, c .before .before .c-at .ensures, c .struct-members .ensures (a .rows .now))
-    (sym (struct-line (typeTable (a .rows .now) (a .members .now)) (a .row) _ _))
+    let s = c .before .before .before .before .before .before .before .before in
+    let t = typeTable (s .args .rows .now) (s .args .members .now) in
+    let row = s .args .row in
+    rw (c .struct-members .ensures (s .args .rows .now))
+    (line (c .before .before) 7 (c .before .match .keys7) (λ a b d. eqb d 0 && (membersExist t a b && structMembers t row a b 1))
+    (sym (struct-line t row (aAt t row) (bAt t row))))
+
+box-arm : tie.Need-returns-8
+unfolding rowFits
+box-arm c =
+    let s = c .before .before .before .before .before .before .before .before in
+    let t = typeTable (s .args .rows .now) (s .args .members .now) in
+    rw (c .kind-at2 .ensures)
+    (line (c .before .before) 8 (c .before .match .keys8) (λ a b d. ltb a (rowCount t) && eqb (kindAt t a) 7 && eqb b 0 && eqb d 0) refl)
 
 table-arm : tie.Need-returns-9
-unfolding typeOf
 table-arm c =
-    let a = c .before .before .before .before .before .before .before .before .args in
-    rw (← c .before .before .before .before .before .kind-at .ensures, c .before .match .keys9, ← c .before .before .before .before .a-at .ensures, ← c .before .before .before .b-at .ensures, c .before .before .c-at .ensures, c .rising-members .ensures)
-    (sym (table-line (typeTable (a .rows .now) (a .members .now)) (a .row) _ _))
+    let s = c .before .before .before .before .before .before .before .before in
+    let t = typeTable (s .args .rows .now) (s .args .members .now) in
+    let row = s .args .row in
+    rw (c .rising-members .ensures)
+    (line (c .before .before) 9 (c .before .match .keys9) (λ a b d. eqb d 0 && (membersExist t a b && risingMembers t a b 0))
+    (sym (table-line t row (aAt t row) (bAt t row))))
 
 union-arm : tie.Need-returns-10
-unfolding typeOf
 union-arm c =
-    let a = c .before .before .before .before .before .before .before .before .args in
-    rw (← c .before .before .before .before .before .kind-at .ensures, c .before .match .keys10, ← c .before .before .before .before .a-at .ensures, ← c .before .before .before .b-at .ensures, c .before .before .c-at .ensures, c .rising-members2 .ensures)
-    (sym (union-line (typeTable (a .rows .now) (a .members .now)) (a .row) _ _ _ _))
+    let s = c .before .before .before .before .before .before .before .before in
+    let t = typeTable (s .args .rows .now) (s .args .members .now) in
+    let row = s .args .row in
+    rw (c .rising-members2 .ensures)
+    (line (c .before .before) 10 (c .before .match .keys10) (λ a b d. leb 1 b && leb d 3 && (membersExist t a b && risingMembers t a b 0))
+    (sym (union-line t row (aAt t row) (bAt t row) _ _)))
+
+other-arm : tie.Need-returns-11
+unfolding rowFits
+other-arm c = line (c .before) _ refl (λ a b d. false) (rw (other-kind _ _ _ _ (none-of c)))
 
 pub row-fits-spec : {M : Type 1} → statement M
-unfolding rowFits typeOf
+unfolding rowFits
 row-fits-spec =
     tie.close
     (tie.spec
@@ -86,14 +120,18 @@ row-fits-spec =
     (λ c κs. search needs)
     (λ c κs. search needs)
     (λ c κs. search needs)
-    (λ c. rw (← c .before .before .before .before .kind-at .ensures, c .match .keys1, ← c .before .before .before .a-at .ensures, ← c .before .before .b-at .ensures, ← c .before .c-at .ensures))
-    (λ c. rw (← c .before .before .before .before .kind-at .ensures, c .match .keys2, ← c .before .before .before .a-at .ensures, ← c .before .before .b-at .ensures, ← c .before .c-at .ensures))
-    (λ c. rw (← c .before .before .before .before .kind-at .ensures, c .match .keys3, ← c .before .before .before .a-at .ensures, ← c .before .before .b-at .ensures, ← c .before .c-at .ensures))
-    (λ c. rw (← c .before .before .before .before .kind-at .ensures, c .match .keys4, ← c .before .before .before .a-at .ensures, ← c .before .before .b-at .ensures, ← c .before .c-at .ensures))
-    (λ c. rw (← c .before .before .before .before .kind-at .ensures, c .match .keys5, ← c .before .before .before .a-at .ensures, ← c .before .c-at .ensures))
-    (λ c. rw (← c .before .before .before .before .kind-at .ensures, c .match .keys6, ← c .before .before .before .a-at .ensures, ← c .before .c-at .ensures))
+    (λ c. line (c .before) 1 (c .match .keys1) (λ a b d. eqb a 0 && eqb b 0 && eqb d 0) refl)
+    (λ c. line (c .before) 2 (c .match .keys2) (λ a b d. (eqb a 1 || eqb a 2 || eqb a 4 || eqb a 8) && eqb b 0 && eqb d 0) refl)
+    (λ c. line (c .before) 3 (c .match .keys3) (λ a b d. leb a 1 && eqb b 0 && eqb d 0) refl)
+    (λ c.
+    let row = c .before .before .before .before .before .before .before .args .row in
+    line (c .before) 4 (c .match .keys4) (λ a b d. ltb a row && leb 1 b && leb b 65528 && eqb d 0) refl)
+    (λ c.
+    let rows = length (c .before .before .before .before .before .before .before .args .rows .now) / 4 in
+    line (c .before) 5 (c .match .keys5) (λ a b d. ltb a rows && leb d 1) refl)
+    (λ c. line (c .before) 6 (c .match .keys6) (λ a b d. eqb a 0 && leb d 1) refl)
     struct-arm
-    (λ c. rw (← c .before .before .before .before .before .kind-at .ensures, c .before .match .keys8, ← c .before .before .before .before .a-at .ensures, ← c .before .before .before .b-at .ensures, ← c .before .before .c-at .ensures, c .kind-at2 .ensures))
+    box-arm
     table-arm
     union-arm
-    (λ c. rw (← c .before .before .before .before .kind-at .ensures, other-kind _ _ _ _ (none-of c))))
+    other-arm)

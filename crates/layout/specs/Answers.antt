@@ -1,0 +1,45 @@
+-- What the answers of this crate's public functions mean in the rules.
+-- Assumes nothing.
+use mathlib.Core.Bool.{Bool}
+use mathlib.Core.List.{List, [], _∷_}
+use Prim.Native.Nat.{ℕ, zero, suc}
+use lib.Dec.{ltb}
+use Rattle.rules.specs.declared.Layout.{Layout}
+use Rattle.rules.specs.Refusals.{Answer, accepted, refused, if_then_else_}
+use Rattle.rules.specs.TypeTable.{TypeTable, rowCount}
+use Rattle.rules.specs.Sizes.{layoutOf}
+use Rattle.rules.specs.Sound.{soundness}
+use Rattle.layout.specs.declared.Soundness.{Soundness}
+use Rattle.layout.specs.declared.Soundness.the-variants as S
+use Rattle.layout.specs.declared.LayoutAnswer.{LayoutAnswer}
+use Rattle.layout.specs.declared.LayoutAnswer.the-variants as L
+
+-- The verdict on a type table: sound, or 1.
+abbrev pub verdictOf : Soundness → Answer (Unit {0})
+verdictOf S.Sound = accepted tt
+verdictOf (S.Refused f) = refused f
+
+-- What the layout calculator answers: the layout, or 1 or 2.
+abbrev pub answerOf : LayoutAnswer → Answer Layout
+answerOf (L.Laid l) = accepted l
+answerOf (L.Refused f) = refused f
+
+-- A number is kept for a row in use of a sound table; else 0 stands in its place.
+abbrev pub keptIf : Answer (Unit {0}) → (inUse : Bool) → ℕ → ℕ
+keptIf (accepted sound) inUse kept = if inUse then kept else 0
+keptIf (refused f) inUse kept = 0
+
+-- One part of the layouts of the `count` rows from `row` on.
+unfoldable pub keptFrom : (part : Layout → ℕ) → TypeTable → (row count : ℕ) → List ℕ
+keptFrom part t row zero = []
+keptFrom part t row (suc count) =
+    keptIf (soundness t) (ltb row (rowCount t)) (part (layoutOf t row)) ∷ keptFrom part t (suc row) count
+
+-- The sizes and the alignments of 256 rows.
+unfoldable pub keptSizes : TypeTable → List ℕ
+unfolding keptFrom
+keptSizes t = keptFrom (λ l. l .size) t 0 256
+
+unfoldable pub keptAlignments : TypeTable → List ℕ
+unfolding keptFrom
+keptAlignments t = keptFrom (λ l. l .alignment) t 0 256
