@@ -4,10 +4,11 @@ use mathlib.Core.Bool.{Bool, true, false, _&&_, _||_}
 use mathlib.Core.List.{List, [], _∷_}
 use mathlib.Core.Path.{_≡_, refl, sym, subst}
 use Prim.Native.Nat.{ℕ, zero, suc, _≤_, _<_, max}
-use native.Mathlib.Nat.{not-suc-le-zero, max-eq-left, max-eq-right, mul-le-mul, le-of-lt}
+use native.Mathlib.Nat.{max-eq-left, max-eq-right, mul-le-mul, le-of-lt}
 use native.Mathlib.Omega.{arith}
 use lib.Dec.{eqb, leb, ltb}
-use borrow.Author.Tests.{eqb-true, eqb-false, leb-true, leb-false, ltb-true, ltb-false}
+use borrow.Author.Count.{below-none, below-more}
+use borrow.Author.Tests.{eqb-true, leb-true, leb-false, ltb-true, ltb-false}
 use Rattle.rules.specs.declared.Layout.{Layout}
 use Rattle.rules.specs.TypeTable.{TypeTable, bAt, cAt, rowOf, FidlType, bool, number, handle, array, vector, string, struct, box, table, union, none, typeOf, memberRows}
 use Rattle.rules.specs.Sizes.{largestAlignment, fieldsFrom, fieldsOf, fieldsSize, structSize, layoutAs, layoutBelow, layoutOf}
@@ -131,17 +132,12 @@ module _ (t : TypeTable) where
         alignment = rw (layout-step t row) (row-alignment t row (layoutBelow t row) aligned some (typeOf t row) fits);
       }
 
-  bounded-case : (bound row : ℕ) (last : Bool) → eqb row bound ≡ last → row < suc bound
-      → (row < bound → Bounded (layoutOf t row)) → Bounded (layoutOf t bound) → Bounded (layoutOf t row)
-  bounded-case bound row true e h earlier here = rw (eqb-true row bound e) here
-  bounded-case bound row false e h earlier here = earlier (let n = eqb-false row bound e in omega arith)
-
   -- Where every row below a bound is sound, their layouts are bounded,
   pub bounded : (bound : ℕ) → SoundBelow t bound → (row : ℕ) → row < bound → Bounded (layoutOf t row)
-  bounded zero sound row h = absurd (not-suc-le-zero h)
-  bounded (suc bound) sound row h =
+  bounded zero sound = below-none (λ r. Bounded (layoutOf t r))
+  bounded (suc bound) sound = λ row h.
       let earlier : (r : ℕ) → r < bound → Bounded (layoutOf t r) = bounded bound (λ r l. sound r (omega arith)) in
-      bounded-case bound row (eqb row bound) refl h (earlier row) (row-bounded bound (sound bound (omega arith)) earlier)
+      below-more (λ r. Bounded (layoutOf t r)) bound earlier (row-bounded bound (sound bound (omega arith)) earlier) row (omega arith)
 
   -- and no inner row of theirs is misaligned.
   pub aligned-below : (bound : ℕ) → SoundBelow t bound → (row : ℕ) → 0 < layoutBelow t bound row .alignment

@@ -1,15 +1,14 @@
 -- Going up the rows of a type table, judging each and keeping its layout: what holds before each row.
 -- Assumes nothing.
-use mathlib.Core.Bool.{Bool, true, false}
+use mathlib.Core.Bool.{true, false}
 use mathlib.Core.List.{List}
 use mathlib.Core.Path.{_≡_, refl, ap, sym, _∙_}
 use Prim.Native.Nat.{ℕ, zero, suc, _+_, _-_, _≤_, _<_}
 use native.Mathlib.Nat.{not-suc-le-zero}
 use native.Mathlib.Numerals.{add-one, sub-one}
 use native.Mathlib.Omega.{arith}
-use lib.Dec.{eqb}
 use lib.ListN.{length, replicate, set}
-use borrow.Author.Tests.{eqb-true, eqb-false}
+use borrow.Author.Count.{below-none, below-more}
 use Rattle.rules.specs.declared.Place.the-variants.{Row}
 use Rattle.rules.specs.declared.Layout.{Layout}
 use Rattle.rules.specs.Refusals.{tableNotSound, fault, accepted, refused, require}
@@ -20,7 +19,7 @@ use Rattle.layout.specs.declared.Soundness.the-variants.{Sound}
 use Rattle.layout.specs.declared.kept.Judged.{Judged}
 use Rattle.layout.specs.declared.kept.Judged.the-variants.{Laid, Bad}
 use Rattle.layout.specs.Answers.{verdictOf, keptSizes, keptAlignments}
-use Rattle.layout.specs.Kept.{SoundBelow, KeptBelow, judged, refusedAt}
+use Rattle.layout.specs.Kept.{KeptBelow, judged, refusedAt}
 use Rattle.layout.proofs.Rows.{lists-whole}
 use Rattle.layout.proofs.Bounds.{Bounded, alignment-bounds, row-bounded, bounded}
 use Rattle.layout.proofs.Keeping.{part-start, part-next, part-sound, part-refused, judged-laid, judged-bad}
@@ -54,16 +53,11 @@ climbing-first t e =
       within = omega arith;
       verdict = let all : rowCount t - 0 ≡ rowCount t = omega arith in rw (e, all);
       kept = record {
-        sound = λ r h. absurd (not-suc-le-zero h);
+        sound = below-none (λ x. rowSound t x ≡ true);
         size = part-start (λ l. l .size) t;
         alignment = part-start (λ l. l .alignment) t;
       };
     }
-
-sound-case : (t : TypeTable) (row : ℕ) → SoundBelow t row → rowSound t row ≡ true
-    → (r : ℕ) (here : Bool) → eqb r row ≡ here → r < row + 1 → rowSound t r ≡ true
-sound-case t row earlier sound r true e h = ap (rowSound t) (eqb-true r row e) ∙ sound
-sound-case t row earlier sound r false e h = let other = eqb-false r row e in earlier r (omega arith)
 
 module _ {t : TypeTable} {row : ℕ} {sizes alignments : List ℕ} (c : Climbing t row sizes alignments) where
   pub few-rows : row ≤ 256
@@ -102,7 +96,7 @@ module _ {t : TypeTable} {row : ℕ} {sizes alignments : List ℕ} (c : Climbing
               within = omega arith;
               verdict = row-verdict ∙ rw (sound .0, rest);
               kept = record {
-                sound = λ x below. sound-case t row (kept .sound) (sound .0) x (eqb x row) refl below;
+                sound = below-more (λ x. rowSound t x ≡ true) row (kept .sound) (sound .0);
                 size = part-next (λ x. x .size) t row sizes (l .size) (kept .size) row-kept (ap (λ x. x .size) (sound .1));
                 alignment = part-next (λ x. x .alignment) t row alignments (l .alignment) (kept .alignment) row-kept (ap (λ x. x .alignment) (sound .1));
               };

@@ -6,10 +6,11 @@ use mathlib.Core.Path.{_≡_, refl, ap, sym, _∙_}
 use Prim.Native.Nat.{ℕ, zero, suc, _+_, _<_}
 use native.Mathlib.Nat.{not-suc-le-zero, add-zero, zero-add}
 use native.Mathlib.Omega.{arith}
-use lib.Dec.{eqb, leb, ltb}
+use lib.Dec.{leb, ltb}
 use lib.ListN.{getD, length, replicate, set, length-set, length-replicate}
 use lib.Seq.{ext-getD, getD-set-same, getD-set-other}
-use borrow.Author.Tests.{eqb-true, eqb-false, lt-ltb, ltb-true, ltb-false}
+use borrow.Author.Count.{below-none, below-more}
+use borrow.Author.Tests.{lt-ltb, ltb-true, ltb-false}
 use Rattle.rules.specs.declared.Fault.{Fault}
 use Rattle.rules.specs.declared.Layout.{Layout}
 use Rattle.rules.specs.Refusals.{accepted, refused}
@@ -66,24 +67,19 @@ module _ (part : Layout → ℕ) (t : TypeTable) where
   part-start =
       record {
         whole = length-replicate {A = ℕ} 256 0;
-        kept = λ row h. absurd (not-suc-le-zero h);
+        kept = below-none (λ row. getD (replicate 256 0) row 0 ≡ part (layoutOf t row));
         zero = λ row h. zeros-get 256 row;
       }
 
   -- then one row after the other,
-  next-case : (row : ℕ) (list : List ℕ) (value : ℕ) → PartBelow part t row list → row < 256 → value ≡ part (layoutOf t row)
-      → (r : ℕ) (here : Bool) → eqb r row ≡ here → r < row + 1 → getD (set list row value) r 0 ≡ part (layoutOf t r)
-  next-case row list value p h e r true q l =
-      rw (eqb-true r row q) (getD-set-same list row value 0 (omega (arith, p .whole)) ∙ e)
-  next-case row list value p h e r false q l =
-      let other = eqb-false r row q in getD-set-other list row r value 0 other ∙ p .kept r (omega arith)
-
   pub part-next : (row : ℕ) (list : List ℕ) (value : ℕ) → PartBelow part t row list → row < 256 → value ≡ part (layoutOf t row)
       → PartBelow part t (row + 1) (set list row value)
   part-next row list value p h e =
       record {
         whole = length-set list row value ∙ p .whole;
-        kept = λ r l. next-case row list value p h e r (eqb r row) refl l;
+        kept = below-more (λ r. getD (set list row value) r 0 ≡ part (layoutOf t r)) row
+            (λ r l. getD-set-other list row r value 0 (λ q. omega arith) ∙ p .kept r l)
+            (getD-set-same list row value 0 (omega (arith, p .whole)) ∙ e);
         zero = λ r l. getD-set-other list row r value 0 (λ q. omega arith) ∙ p .zero r (omega arith);
       }
 
@@ -134,9 +130,12 @@ verdict-refused t v f e q = sym e ∙ ap verdictOf q
 
 -- The kept numbers of a row in use are its size and its alignment, within their bounds.
 module _ (t : TypeTable) (sound : soundness t ≡ accepted tt) (row : ℕ) (h : row < rowCount t) where
+  pub few-rows : row < 256
+  few-rows = omega (arith, lists-whole t (sound-lists t sound) .rows)
+
   kept-part : (part : Layout → ℕ) → getD (keptFrom part t 0 256) row 0 ≡ part (layoutOf t row)
   kept-part part =
-      kept-get part t 0 256 row (omega (arith, lists-whole t (sound-lists t sound) .rows))
+      kept-get part t 0 256 row few-rows
       ∙ ap (kept part t) (zero-add row)
       ∙ rw (sound, lt-ltb row (rowCount t) h)
 

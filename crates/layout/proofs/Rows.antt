@@ -57,12 +57,13 @@ layout-step t row = refl
 
 -- ---- tests that passed
 
--- A conjunction that holds, and the first failed test of an answer that is accepted.
+-- Both tests of a conjunction that holds; the test of an answer that is accepted.
 pub both : (a b : Bool) → (a && b) ≡ true → (a ≡ true) × (b ≡ true)
 both true b e = (refl, e)
 both false b e = (e, let z : false ≡ true = e in cc)
 
-pub required : {A : Type 0} (test : Bool) (f : Fault) (a : Answer A) (x : A) → require test f a ≡ accepted x → (test ≡ true) × (a ≡ accepted x)
+pub required : {A : Type 0} (test : Bool) (f : Fault) (a : Answer A) (x : A) → require test f a ≡ accepted x
+    → (test ≡ true) × (a ≡ accepted x)
 required true f a x e = (refl, e)
 required false f a x e = let z : _≡_ {A = Answer _} (refused f) (accepted x) = e in (cc, cc)
 
@@ -80,10 +81,10 @@ lists-whole t e =
 
 -- ---- sound rows
 
-rows-case : (t : TypeTable) (row count r : ℕ) (first : Bool) → eqb r row ≡ first → row ≤ r
+rows-case : (t : TypeTable) (row r : ℕ) (first : Bool) → eqb r row ≡ first → row ≤ r
     → rowSound t row ≡ true → (suc row ≤ r → rowSound t r ≡ true) → rowSound t r ≡ true
-rows-case t row count r true e low here later = ap (rowSound t) (eqb-true r row e) ∙ here
-rows-case t row count r false e low here later = later (let n = eqb-false r row e in omega arith)
+rows-case t row r true e low here later = ap (rowSound t) (eqb-true r row e) ∙ here
+rows-case t row r false e low here later = later (let n = eqb-false r row e in omega arith)
 
 pub rows-sound : (t : TypeTable) (row count : ℕ) → rowsSound t row count ≡ accepted tt
     → (r : ℕ) → row ≤ r → r < row + count → rowSound t r ≡ true
@@ -91,7 +92,7 @@ unfolding rowsSound
 rows-sound t row zero e r low high = absurd (omega arith)
 rows-sound t row (suc count) e r low high =
     let passed = required (rowSound t row) _ (rowsSound t (suc row) count) tt e in
-    rows-case t row count r (eqb r row) refl low (passed .0) (λ l. rows-sound t (suc row) count (passed .1) r l (omega arith))
+    rows-case t row r (eqb r row) refl low (passed .0) (λ l. rows-sound t (suc row) count (passed .1) r l (omega arith))
 
 pub sound-lists : (t : TypeTable) → soundness t ≡ accepted tt → listsWhole t ≡ true
 unfolding soundness
@@ -99,7 +100,9 @@ sound-lists t e = required (listsWhole t) _ (rowsSound t 0 (rowCount t)) tt e .0
 
 pub sound-rows : (t : TypeTable) → soundness t ≡ accepted tt → SoundBelow t (rowCount t)
 unfolding soundness
-sound-rows t e row h = rows-sound t 0 (rowCount t) (required (listsWhole t) _ (rowsSound t 0 (rowCount t)) tt e .1) row (omega arith) (omega arith)
+sound-rows t e row h =
+    let rows = required (listsWhole t) _ (rowsSound t 0 (rowCount t)) tt e .1 in
+    rows-sound t 0 (rowCount t) rows row (omega arith) (omega arith)
 
 -- A sound row has its line of the table of kinds, and its size is at most 65,528.
 pub sound-fits : (t : TypeTable) (row : ℕ) → rowSound t row ≡ true → rowFits t row (typeOf t row) ≡ true

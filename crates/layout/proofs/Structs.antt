@@ -75,7 +75,8 @@ module _ (inner : ℕ → Layout) (aligned : (row : ℕ) → 0 < inner row .alig
   struct-closed t first (suc count) h = rows-closed (rowOf t first) (memberRows t (suc first) count)
 
 -- The next of the members that are left.
-pub members-step : (t : TypeTable) (first count : ℕ) → 0 < count → memberRows t first count ≡ rowOf t first ∷ memberRows t (first + 1) (count - 1)
+pub members-step : (t : TypeTable) (first count : ℕ) → 0 < count
+    → memberRows t first count ≡ rowOf t first ∷ memberRows t (first + 1) (count - 1)
 unfolding memberRows
 members-step t first zero h = absurd (not-suc-le-zero h)
 members-step t first (suc count) h = rw (add-one first, sub-one (suc count))
@@ -86,6 +87,7 @@ pub placed-step : (inner : ℕ → Layout) (t : TypeTable) (before : Layout) (fi
 unfolding placedAll
 placed-step inner t before first count h = rw (members-step t first count h)
 
-pub placed-none : (inner : ℕ → Layout) (t : TypeTable) (before : Layout) (first : ℕ) → placedAll inner before (memberRows t first 0) ≡ before
+pub placed-none : (inner : ℕ → Layout) (t : TypeTable) (before : Layout) (first : ℕ)
+    → placedAll inner before (memberRows t first 0) ≡ before
 unfolding placedAll memberRows
 placed-none inner t before first = refl

@@ -23,6 +23,7 @@ pub(crate) enum Judged {
     Bad,
 }
 
+// What is kept of a row.
 fn kept_at(sizes: &[u32; 256], alignments: &[u32; 256], row: u32) -> Layout
     ensures { λ r. ⌜ r ≡ layout (getD (now (sizes .entry)) row 0) (getD (now (alignments .entry)) row 0) ⌝ }
 {
