@@ -1,0 +1,55 @@
+-- The number stream that cases are read from.
+-- Assumes nothing.
+use mathlib.Core.Path.{_≡_}
+use mathlib.Core.Bool.{Bool, true, false, _&&_}
+use mathlib.Core.List.{List, [], _∷_}
+use Prim.Native.Nat.{ℕ, suc, _+_, _-_, _*_, _%_, _≤_, min}
+use lib.Dec.{leb, eqb}
+use lib.ListN.{length, take}
+use lib.Seq.{sets}
+use Rattle.rules.specs.Refusals.{if_then_else_}
+use Rattle.rules.specs.Bytes.{ones64}
+
+abbrev pub isDigit : ℕ → Bool
+isDigit byte = leb 48 byte && leb byte 57
+
+-- One more digit behind a number; over 64 bits it stays at the largest.
+abbrev pub withDigit : (value byte : ℕ) → ℕ
+withDigit value byte = min (value * 10 + (byte - 48)) ones64
+
+-- The numbers of a line, the first of them begun with a value. Every byte that is no digit ends a number, and a line feed
+-- ends the line too.
+unfoldable pub numbersOf : (bytes : List ℕ) (value : ℕ) → List ℕ
+numbersOf [] value = []
+numbersOf (byte ∷ bytes) value =
+    if isDigit byte then numbersOf bytes (withDigit value byte) else value ∷ (if eqb byte 10 then [] else numbersOf bytes 0)
+
+-- The length of a line, with its line feed.
+unfoldable pub lineLength : List ℕ → ℕ
+lineLength [] = 0
+lineLength (byte ∷ bytes) = suc (if eqb byte 10 then 0 else lineLength bytes)
+
+-- Reading a line: its numbers are counted and put into a list that was lent, and the next line starts after it.
+pub record LineRead (bytes : List ℕ) (from : ℕ) (lent : List ℕ) (count next : ℕ) (after : List ℕ) : Type 0 where
+  pub counted : count ≡ length (numbersOf bytes 0)
+  pub passed : next ≡ from + lineLength bytes
+  pub put : after ≡ sets lent 0 (numbersOf bytes 0)
+
+-- The remainders of numbers, as a narrower type holds them.
+unfoldable pub narrowed : (limit : ℕ) → List ℕ → List ℕ
+narrowed limit [] = []
+narrowed limit (n ∷ numbers) = n % limit ∷ narrowed limit numbers
+
+-- Storing numbers in a list of a narrower type that was lent, as many as it has room for: they are counted and put.
+pub record Narrows (limit : ℕ) (numbers lent : List ℕ) (count : ℕ) (after : List ℕ) : Type 0 where
+  pub within : count ≤ length after
+  pub long : count ≡ length (take count after)
+  pub counted : count ≡ min (length numbers) (length lent)
+  pub put : after ≡ sets lent 0 (narrowed limit numbers)
+
+-- Are two lists of numbers equal?
+unfoldable pub sameNumbers : List ℕ → List ℕ → Bool
+sameNumbers [] [] = true
+sameNumbers [] (y ∷ ys) = false
+sameNumbers (x ∷ xs) [] = false
+sameNumbers (x ∷ xs) (y ∷ ys) = eqb x y && sameNumbers xs ys

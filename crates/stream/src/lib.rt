@@ -1,0 +1,150 @@
+// The number stream: a case is a line of decimal numbers. Every byte that is no digit ends a number, and a line feed ends
+// the line too. In a case a list stands as its length and then its numbers.
+ghost use mathlib.Core.Path.{_≡_};
+ghost use Prim.Native.Nat.{_+_, _≤_};
+ghost use lib.ListN.{take, drop, getD, set};
+ghost use Rattle.stream.specs.Numbers.{isDigit, withDigit, LineRead, Narrows, sameNumbers};
+
+// How many numbers stand in a line, and where the next line starts.
+pub struct Line {
+    pub count: usize,
+    pub next: usize,
+}
+
+// Puts the numbers of the line that starts at a place into a lent list, those that it has room for, and counts them all.
+pub fn read_line(text: &[u8], from: usize, numbers: &mut [u64]) -> Line
+    ensures { λ r.
+        ⌜ LineRead (drop from (now (text .entry))) from (now (numbers .entry)) (r .count) (r .next) (now (numbers .exit)) ⌝ }
+{
+    let mut value: u64 = 0;
+    let mut count: usize = 0;
+    let mut at = from;
+    while at < text.len() {
+        let byte = text[at];
+        at += 1;
+        if is_digit(byte) {
+            value = with_digit(value, byte);
+            continue;
+        }
+        put(numbers, count, value);
+        count += 1;
+        value = 0;
+        if byte == 10 {
+            return Line { count, next: at };
+        }
+    }
+    Line { count, next: at }
+}
+
+fn is_digit(byte: u8) -> bool
+    ensures { λ r. ⌜ r ≡ isDigit byte ⌝ }
+{
+    (48 <= byte) & (byte <= 57)
+}
+
+fn with_digit(value: u64, byte: u8) -> u64
+    requires { ⌜ (48 ≤ byte) × (byte ≤ 57) ⌝ }
+    ensures { λ r. ⌜ r ≡ withDigit value byte ⌝ }
+{
+    let digit = (byte - 48) as u64;
+    if value <= (u64::MAX - digit) / 10 {
+        value * 10 + digit
+    } else {
+        u64::MAX
+    }
+}
+
+// Stores a number where there is room for it.
+fn put(numbers: &mut [u64], at: usize, value: u64)
+    ensures { λ _. ⌜ now (numbers .exit) ≡ set (now (numbers .entry)) at value ⌝ }
+{
+    if at < numbers.len() {
+        numbers[at] = value;
+    }
+}
+
+// A number of a case; past its end stands 0.
+pub fn number(case: &[u64], at: usize) -> u64
+    ensures { λ r. ⌜ r ≡ getD (now (case .entry)) at 0 ⌝ }
+{
+    if at < case.len() { case[at] } else { 0 }
+}
+
+// The numbers from a place on,
+pub fn rest(numbers: &[u64], at: usize) -> &[u64]
+    ensures { λ r. ⌜ now r ≡ drop at (now (numbers .entry)) ⌝ }
+{
+    if at <= numbers.len() {
+        &numbers[at..]
+    } else {
+        &numbers[..0]
+    }
+}
+
+// and so many from the first on.
+pub fn first(numbers: &[u64], count: usize) -> &[u64]
+    ensures { λ r. ⌜ now r ≡ take count (now (numbers .entry)) ⌝ }
+{
+    if count <= numbers.len() {
+        &numbers[..count]
+    } else {
+        numbers
+    }
+}
+
+// The list whose length stands at a place of a case.
+pub fn list(case: &[u64], at: usize) -> &[u64]
+    ensures { λ r. ⌜ now r ≡ take (getD (now (case .entry)) at 0) (drop (at + 1) (now (case .entry))) ⌝ }
+{
+    if case.len() <= at {
+        return &case[..0];
+    }
+    first(rest(case, at + 1), number(case, at) as usize)
+}
+
+// Puts numbers into a lent list of bytes, those that it has room for, and says how many;
+pub fn to_bytes(numbers: &[u64], bytes: &mut [u8]) -> usize
+    ensures { λ r. ⌜ Narrows 256 (now (numbers .entry)) (now (bytes .entry)) r (now (bytes .exit)) ⌝ }
+{
+    let mut at = 0;
+    while at < numbers.len() {
+        if bytes.len() <= at {
+            return at;
+        }
+        bytes[at] = (numbers[at] % 256) as u8;
+        at += 1;
+    }
+    at
+}
+
+// and into a list of words, as those of a type table are.
+pub fn to_words(numbers: &[u64], words: &mut [u32]) -> usize
+    ensures { λ r. ⌜ Narrows 4294967296 (now (numbers .entry)) (now (words .entry)) r (now (words .exit)) ⌝ }
+{
+    let mut at = 0;
+    while at < numbers.len() {
+        if words.len() <= at {
+            return at;
+        }
+        words[at] = (numbers[at] % 4294967296) as u32;
+        at += 1;
+    }
+    at
+}
+
+// Are two lists of numbers equal?
+pub fn same(left: &[u64], right: &[u64]) -> bool
+    ensures { λ r. ⌜ r ≡ sameNumbers (now (left .entry)) (now (right .entry)) ⌝ }
+{
+    if left.len() != right.len() {
+        return false;
+    }
+    let mut at = 0;
+    while at < left.len() {
+        if left[at] != right[at] {
+            return false;
+        }
+        at += 1;
+    }
+    true
+}
