@@ -1,0 +1,13 @@
+-- `cases::text_room` meets its contract, by a law: a list this long is not to be written out.
+-- Assumes nothing.
+use mathlib.Core.Path.{sym}
+use Prim.Native.Nat.{ℕ}
+use lib.ListN.{length-replicate}
+use Rattle.cases.proofs.text_room.Statement.{statement}
+use Rattle.cases.proofs.text_room.Tie as tie
+
+returns : tie.Need-returns
+returns c = sym (length-replicate {A = ℕ} 1048576 0)
+
+pub text-room-spec : {M : Type 1} → statement M
+text-room-spec = tie.close (tie.spec returns)
