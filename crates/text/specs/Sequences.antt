@@ -4,7 +4,7 @@ use mathlib.Core.Path.{_≡_}
 use mathlib.Core.List.{List, [], _∷_}
 use Prim.Native.Nat.{ℕ, zero, suc, _≤_}
 use lib.ListN.{length, drop}
-use Rattle.rules.specs.Text.{Range, range, tail, Led, led, notALead, follows}
+use Rattle.rules.specs.Text.{Range, range, Led, led, notALead, follows}
 use Rattle.text.specs.declared.Lead.{Lead}
 use Rattle.text.specs.declared.Lead.the-variants.{Sequence, NotALead}
 
