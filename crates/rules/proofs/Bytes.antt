@@ -1,10 +1,10 @@
 -- Laws of bytes: little-endian words there and back, zero fill, and bytes that stand in a message at a place.
-use mathlib.Core.Path.{_≡_, refl, sym, ap, _∙_, subst}
-use mathlib.Core.List.{List, [], _∷_, _++_, append-assoc, append-nil}
-use Prim.Native.Nat.{ℕ, zero, suc, _+_, _*_, _-_, _/_, _%_, _^_, _≤_, _<_, min}
-use native.Mathlib.Nat.{mod-lt, div-add-mod, div-lt-iff-lt-mul, min-eq-left, suc-add, zero-add, add-zero, add-mul-mod-self-left, add-mul-div-left, mod-eq-of-lt, div-eq-of-lt, pow-suc, mul-comm}
+use mathlib.Core.Path.{_≡_, refl, sym, ap, _∙_}
+use mathlib.Core.List.{List, [], _∷_, _++_}
+use Prim.Native.Nat.{ℕ, zero, suc, _+_, _*_, _/_, _%_, _^_, _≤_, _<_}
+use native.Mathlib.Nat.{mod-lt, div-lt-iff-lt-mul, suc-add, zero-add, pow-suc}
 use native.Mathlib.Omega.{arith}
-use lib.ListN.{length, take, drop, getD, replicate, length-append, length-take, length-drop, length-replicate}
+use lib.ListN.{length, take, drop, getD, length-append, length-take, length-drop}
 use lib.Seq.{take-add, drop-drop, take-append-seam, drop-append-seam}
 use Rattle.rules.specs.Bytes.{Octets, littleEndian, bytesOf, part, word, zeros, leadingZeros, roundUp, padded}
 

@@ -1,22 +1,21 @@
 -- Handles, records and objects: their twins.
 use mathlib.Core.Path.{_≡_, refl}
-use mathlib.Core.Bool.{Bool, true, false}
+use mathlib.Core.Bool.{true, false}
 use mathlib.Core.List.{List, [], _∷_, _++_}
-use Prim.Native.Nat.{ℕ, suc, _+_, _-_, _≤_}
+use Prim.Native.Nat.{ℕ, _+_, _-_, _≤_}
 use native.Mathlib.Omega.{arith}
 use lib.Dec.{leb, eqb}
 use borrow.Author.Tests.{leb-true, le-leb}
 use lib.ListN.{length, length-append}
 use Rattle.rules.specs.declared.Place.the-variants.{Byte}
-use Rattle.rules.specs.Refusals.{fault, fillNotZero, objectDoesNotFit, tooFewHandles, messageTooLong, tooManyHandles}
+use Rattle.rules.specs.Refusals.{fault, fillNotZero, objectDoesNotFit, messageTooLong}
 use Rattle.rules.specs.Bytes.{Octets, part, zeros, leadingZeros, padded}
-use Rattle.rules.specs.Trace.{Event, claimed, presentHandle, handlesOf, unknownObject, objectList, presentHandles, unknownHandles, unknownOutOfLine, unknownLengths, Tiles}
+use Rattle.rules.specs.Trace.{Event, claimed, presentHandle, unknownObject, objectList, presentHandles, unknownHandles, unknownOutOfLine, unknownLengths, Tiles}
 use Rattle.rules.specs.Decode as D
-use Rattle.rules.specs.Decode.{Message, went, Decoder, ReadRecord, got}
+use Rattle.rules.specs.Decode.{Message, Decoder, ReadRecord, got}
 use Rattle.rules.specs.Encode as E
 use Rattle.rules.specs.Encode.{Encoded, wrote, Encoder, WriteRecord, put}
 use Rattle.rules.proofs.Bytes.{StandsAt, stands-nil, stands-left, stands-right, stands-join, zeros-length, padded-above, padded-whole, octets-append, octets-zeros, octets-nil}
-use Rattle.rules.proofs.Trace.{allHandles, UnknownAreObjects}
 use Rattle.rules.proofs.Results.{Took, took, took-inv, Taken, taken, taken-inv, require-inv, write-require-inv, After, after-inv, Record, record-inv, WriteOf, write-record-inv, AsObject, object, object-inv}
 use Rattle.rules.proofs.Twins.{WellFormed, Decodes, decodes, Encodes, Twins, zero-standing, standing-zero}
 

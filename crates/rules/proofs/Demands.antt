@@ -1,9 +1,8 @@
 -- Demands 2 and 3 of specs/Demands.antt, proved: from the twins of the whole walk and the whole writer.
 use mathlib.Core.Path.{_≡_, refl, sym, ap, _∙_}
-use mathlib.Core.Logic.{_↔_}
 use mathlib.Core.Bool.{Bool, true, false}
-use mathlib.Core.List.{List, [], _∷_, _++_, append-nil}
-use Prim.Native.Nat.{ℕ, _+_, _-_, _≤_}
+use mathlib.Core.List.{List, [], _∷_, append-nil}
+use Prim.Native.Nat.{ℕ, _+_, _≤_}
 use native.Mathlib.Omega.{arith}
 use lib.Dec.{leb, eqb}
 use borrow.Author.Tests.{leb-true, le-leb, eqb-true, eq-eqb}
@@ -15,15 +14,15 @@ use Rattle.rules.specs.Refusals.{fault, rootNotAllowed, messageTooLong, 
 use Rattle.rules.specs.Bytes.{Octets, part}
 use Rattle.rules.specs.TypeTable.{TypeTable}
 use Rattle.rules.specs.Sizes.{sizeOf}
-use Rattle.rules.specs.Sound.{soundness, rootAllowed, requireRow}
-use Rattle.rules.specs.Trace.{Event, objectList, presentHandles, unknownHandles, Tiles, primaryObject}
+use Rattle.rules.specs.Sound.{soundness, rootAllowed}
+use Rattle.rules.specs.Trace.{Event, objectList, Tiles, primaryObject}
 use Rattle.rules.specs.Decode as D
-use Rattle.rules.specs.Decode.{Message, Decoded, went, stopped, traceOf}
+use Rattle.rules.specs.Decode.{Message, Decoded, went, stopped}
 use Rattle.rules.specs.Encode as E
 use Rattle.rules.specs.Encode.{Encoded, wrote, cannot}
 use Rattle.rules.specs.Walk as W
 use Rattle.rules.specs.Writer as R
-use Rattle.rules.specs.Answers.{walk, Reading, finished, judged, requireRoom, check, readValues, readObjects, Written, closed, encode, written, write}
+use Rattle.rules.specs.Answers.{walk, Reading, finished, judged, check, readValues, readObjects, Written, closed, encode, written, write}
 use Rattle.rules.specs.Demands.{message, Accepted, HasValue, HasObjects, IsWrittenTo, Demand2, Canonical, Demand3}
 use Rattle.rules.proofs.Bytes.{StandsAt, stands-nil, octets-nil}
 use Rattle.rules.proofs.Trace.{allHandles, UnknownAreObjects}

@@ -1,26 +1,26 @@
 -- Tests after a part; the numbers and flags of an envelope; envelopes that may be absent, must be, or may not be.
-use mathlib.Core.Path.{_≡_, refl, sym, _∙_}
-use mathlib.Core.Bool.{Bool, true, false, not}
+use mathlib.Core.Path.{_≡_, refl}
+use mathlib.Core.Bool.{Bool, true}
 use mathlib.Core.List.{List, [], _∷_, _++_}
-use Prim.Native.Nat.{ℕ, zero, suc, _+_, _-_, _*_, _≤_, _<_}
+use Prim.Native.Nat.{ℕ, _+_, _-_, _≤_, _<_}
 use native.Mathlib.Omega.{arith}
-use lib.Dec.{leb, eqb}
+use lib.Dec.{eqb}
 use borrow.Author.Tests.{eqb-true, eq-eqb}
 use lib.ListN.{length, length-append, take}
 use lib.Seq.{take-append-seam}
 use Rattle.rules.specs.declared.Place.the-variants.{Byte}
 use Rattle.rules.specs.declared.Fault.{Fault}
-use Rattle.rules.specs.Refusals.{if_then_else_, fault, absentNotZero, notAValue, envelopeFormWrong, envelopeNumberWrong, presentEnvelopeZero, lastEnvelopeZero}
-use Rattle.rules.specs.Bytes.{Octets, part, word, bytesOf, zeros, leadingZeros}
-use Rattle.rules.specs.Trace.{Event, objectList, presentHandles, unknownHandles, unknownOutOfLine, unknownLengths, Tiles}
+use Rattle.rules.specs.Refusals.{fault, notAValue, envelopeFormWrong, envelopeNumberWrong}
+use Rattle.rules.specs.Bytes.{Octets, word, bytesOf}
+use Rattle.rules.specs.Trace.{Event}
 use Rattle.rules.specs.Decode as D
-use Rattle.rules.specs.Decode.{Message, Decoded, went, stopped, Decoder}
+use Rattle.rules.specs.Decode.{Message, Decoder}
 use Rattle.rules.specs.Encode as E
 use Rattle.rules.specs.Encode.{Encoded, wrote, cannot, Encoder}
 use Rattle.rules.specs.Envelope.{lowWord, handleNumber, flags, byteNumbered, flagged, byteNumberGoes, writeByteNumber, flagsGo, writeFlags}
-use Rattle.rules.proofs.Bytes.{StandsAt, stands-nil, stands-left, stands-right, stands-join, zeros-length, octets-append, octets-zeros, octets-nil, octets-bytesOf, bytesOf-length, word-standing, standing-word, word-add, word-zeros}
-use Rattle.rules.proofs.Results.{stopped-not-went, cannot-not-wrote, require-inv, write-require-inv, require-after-inv, After, after-inv, Then, then-inv}
-use Rattle.rules.proofs.Twins.{WellFormed, Decodes, decodes, Encodes, Twins, plain-form, plain-encodes, zero-standing, standing-zero, twins-zeros}
+use Rattle.rules.proofs.Bytes.{StandsAt, stands-nil, stands-left, stands-right, stands-join, octets-append, octets-bytesOf, bytesOf-length, word-standing, standing-word}
+use Rattle.rules.proofs.Results.{cannot-not-wrote, require-inv, write-require-inv, require-after-inv}
+use Rattle.rules.proofs.Twins.{WellFormed, Decodes, decodes, Encodes, Twins}
 
 -- ---- a test of the values
 

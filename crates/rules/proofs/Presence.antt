@@ -1,7 +1,7 @@
 -- Envelopes that may be absent, must be zero, or may not be: content that goes on is never eight zero bytes.
 use mathlib.Core.Path.{_≡_, refl}
 use mathlib.Core.Bool.{Bool, true, false, not}
-use mathlib.Core.List.{List, [], _∷_, _++_}
+use mathlib.Core.List.{List, [], _∷_}
 use Prim.Native.Nat.{ℕ, zero, suc, _+_, _-_, _*_, _≤_, _<_}
 use native.Mathlib.Omega.{arith}
 use lib.Dec.{eqb}
@@ -16,8 +16,8 @@ use Rattle.rules.specs.Decode.{Message, Decoded, went, Decoder}
 use Rattle.rules.specs.Encode as E
 use Rattle.rules.specs.Encode.{wrote, Encoder}
 use Rattle.rules.specs.Envelope.{inLine, lowWord, handleNumber, flags, byteNumbered, flagged}
-use Rattle.rules.proofs.Bytes.{StandsAt, stands-nil, zeros-length, octets-zeros, octets-nil, word-add, word-zeros}
-use Rattle.rules.proofs.Results.{stopped-not-went, cannot-not-wrote, require-inv, write-require-inv, require-after-inv, After, after-inv, Then, then-inv}
+use Rattle.rules.proofs.Bytes.{StandsAt, stands-nil, zeros-length, octets-zeros, word-add, word-zeros}
+use Rattle.rules.proofs.Results.{cannot-not-wrote, require-inv, write-require-inv, require-after-inv, After, after-inv, Then, then-inv}
 use Rattle.rules.proofs.Twins.{WellFormed, Decodes, decodes, Encodes, Twins, plain-form, zero-standing, standing-zero, twins-zeros}
 
 -- A decoder that is stopped at an envelope of zeros.

@@ -12,7 +12,7 @@ use Rattle.rules.specs.Refusals.{if_then_else_, fault, tooFewHandles, to
 use Rattle.rules.specs.Bytes.{zeros, padded}
 use Rattle.rules.specs.Trace.{Event, handlesOf}
 use Rattle.rules.specs.Decode as D
-use Rattle.rules.specs.Decode.{Message, Decoded, went, stopped, Decoder, ReadRecord, got, wrong}
+use Rattle.rules.specs.Decode.{Message, Decoded, went, stopped, ReadRecord, got, wrong}
 use Rattle.rules.specs.Encode as E
 use Rattle.rules.specs.Encode.{Encoded, wrote, cannot, Encoder, WriteRecord, put, unfit}
 

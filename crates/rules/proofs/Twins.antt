@@ -1,24 +1,24 @@
 -- What ties a part of the walk to its twin of the writer, and that putting parts together keeps it.
 use mathlib.Core.Path.{_≡_, refl, sym, ap, _∙_}
-use mathlib.Core.Bool.{Bool, true, false}
-use mathlib.Core.List.{List, [], _∷_, _++_, append-assoc}
-use Prim.Native.Nat.{ℕ, zero, suc, _+_, _-_, _*_, _%_, _≤_, _<_}
+use mathlib.Core.Bool.{true}
+use mathlib.Core.List.{List, [], _++_, append-assoc}
+use Prim.Native.Nat.{ℕ, zero, suc, _+_, _*_, _%_, _≤_}
 use native.Mathlib.Omega.{arith}
-use lib.Dec.{leb, eqb}
-use borrow.Author.Tests.{leb-true, le-leb, eqb-true, eq-eqb}
+use lib.Dec.{eqb}
+use borrow.Author.Tests.{eqb-true, eq-eqb}
 use lib.ListN.{length, length-append}
 use Rattle.rules.specs.declared.Place.the-variants.{Byte}
 use Rattle.rules.specs.declared.Fault.{Fault}
-use Rattle.rules.specs.Refusals.{fault, fillNotZero, objectDoesNotFit, tooFewHandles, messageTooLong, tooManyHandles}
-use Rattle.rules.specs.Bytes.{Octets, part, zeros, leadingZeros, padded}
-use Rattle.rules.specs.Trace.{Event, claimed, handlesOf, unknownObject, objectList, presentHandles, unknownHandles, unknownOutOfLine, unknownLengths, Tiles}
+use Rattle.rules.specs.Refusals.{fault, fillNotZero}
+use Rattle.rules.specs.Bytes.{Octets, part, zeros, leadingZeros}
+use Rattle.rules.specs.Trace.{Event, objectList, presentHandles, unknownHandles, unknownOutOfLine, unknownLengths, Tiles}
 use Rattle.rules.specs.Decode as D
-use Rattle.rules.specs.Decode.{Message, Decoded, went, stopped, Decoder, ReadRecord, got}
+use Rattle.rules.specs.Decode.{Message, went, Decoder}
 use Rattle.rules.specs.Encode as E
-use Rattle.rules.specs.Encode.{Encoded, wrote, cannot, Encoder, WriteRecord, put}
-use Rattle.rules.proofs.Bytes.{StandsAt, stands-nil, stands-left, stands-right, stands-join, stands-part, part-length, zeros-length, leadingZeros-zeros, zeros-leadingZeros, padded-above, padded-whole, octets-append, octets-zeros, octets-nil}
+use Rattle.rules.specs.Encode.{wrote, Encoder}
+use Rattle.rules.proofs.Bytes.{StandsAt, stands-nil, stands-left, stands-right, stands-join, stands-part, part-length, zeros-length, leadingZeros-zeros, zeros-leadingZeros, octets-append, octets-zeros, octets-nil}
 use Rattle.rules.proofs.Trace.{allHandles, allHandles-append, tiles-append, UnknownAreObjects, unknown-append}
-use Rattle.rules.proofs.Results.{stopped-not-went, cannot-not-wrote, require-inv, write-require-inv, After, after-inv, Then, then-inv, WriteThen, write-then-inv, Record, record-inv, WriteOf, write-record-inv, AsObject, object, object-inv}
+use Rattle.rules.proofs.Results.{stopped-not-went, cannot-not-wrote, require-inv, Then, then-inv, WriteThen, write-then-inv}
 
 -- What an encoder wrote: so many bytes in line; whole objects after the next free place; all of it within the limits.
 pub record WellFormed (size n u : ℕ) (inl ool : List ℕ) (n₁ u₁ : ℕ) : Type 0 where

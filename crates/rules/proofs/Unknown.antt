@@ -2,24 +2,24 @@
 use mathlib.Core.Path.{_≡_, refl, ap}
 use mathlib.Core.Bool.{Bool, true, false, _&&_}
 use mathlib.Core.List.{List, [], _∷_, _++_, append-nil}
-use Prim.Native.Nat.{ℕ, zero, suc, _+_, _-_, _*_, _/_, _%_, _≤_, _<_}
+use Prim.Native.Nat.{ℕ, _+_, _-_, _*_, _/_, _%_, _≤_, _<_}
 use native.Mathlib.Nat.{add-zero}
 use native.Mathlib.Omega.{arith}
 use lib.Dec.{leb, ltb, eqb}
-use borrow.Author.Tests.{leb-true, le-leb, ltb-true, lt-ltb, eqb-true, eq-eqb, eqb-false, ne-eqb}
+use borrow.Author.Tests.{leb-true, le-leb, ltb-true, lt-ltb, eqb-true, eqb-false, ne-eqb}
 use lib.ListN.{length, length-append}
 use Rattle.rules.specs.declared.Place.the-variants.{Byte}
-use Rattle.rules.specs.Refusals.{if_then_else_, fault, fillNotZero, objectDoesNotFit, tooFewHandles, tooDeep, envelopeFormWrong, messageTooLong, tooManyHandles, notAValue}
-use Rattle.rules.specs.Bytes.{Octets, part, word, bytesOf, zeros, leadingZeros, padded}
-use Rattle.rules.specs.Trace.{Event, claimed, unknownContent, unknownObject, handlesOf, objectList, presentHandles, unknownHandles, unknownOutOfLine, unknownLengths, Tiles}
+use Rattle.rules.specs.Refusals.{if_then_else_, fault, objectDoesNotFit, envelopeFormWrong, messageTooLong, notAValue}
+use Rattle.rules.specs.Bytes.{Octets, word, bytesOf, zeros, padded}
+use Rattle.rules.specs.Trace.{Event, claimed, unknownContent, unknownObject, objectList, presentHandles, unknownHandles, unknownOutOfLine, unknownLengths, Tiles}
 use Rattle.rules.specs.Decode as D
 use Rattle.rules.specs.Decode.{Message, Decoded, went, Decoder}
 use Rattle.rules.specs.Encode as E
-use Rattle.rules.specs.Encode.{Encoded, wrote, Encoder}
+use Rattle.rules.specs.Encode.{wrote, Encoder}
 use Rattle.rules.specs.Records.{anyPattern}
-use Rattle.rules.specs.Envelope.{decodeWord, encodeWord, inLine, outOfLine, envelopeBytes, lowWord, handleNumber, flags, wholeWords, unknownOutOfLine as outside-part, unknownEnvelope, byteNumberFits, handleNumberFits, wordFits, writeWords, writeUnknownInLine, writeUnknownOutOfLine, writeUnknown}
+use Rattle.rules.specs.Envelope.{decodeWord, encodeWord, inLine, outOfLine, envelopeBytes, lowWord, handleNumber, flags, wholeWords, unknownEnvelope, byteNumberFits, handleNumberFits, wordFits, writeWords, writeUnknownInLine, writeUnknownOutOfLine}
 use Rattle.rules.proofs.Bytes.{StandsAt, stands-nil, stands-left, stands-right, stands-join, octets-append, octets-bytesOf, octets-nil, bytesOf-length, word-standing, standing-word, word-below, word-add, word-zeros, padded-above}
-use Rattle.rules.proofs.Results.{stopped-not-went, cannot-not-wrote, require-inv, write-require-inv, After, after-inv, WriteAfter, write-after-inv, Then, then-inv, WriteThen, write-then-inv, Took, took, took-inv, Taken, taken, taken-inv, AsObject, object, object-inv}
+use Rattle.rules.proofs.Results.{cannot-not-wrote, require-inv, write-require-inv, After, after-inv, WriteAfter, write-after-inv, Then, then-inv, WriteThen, write-then-inv, Took, took, took-inv, Taken, taken, taken-inv, AsObject, object, object-inv}
 use Rattle.rules.proofs.Twins.{WellFormed, Decodes, decodes, Encodes, Twins, twins-nothing, twins-size, twins-elements, zero-standing, standing-zero}
 use Rattle.rules.proofs.Claims.{twins-record, object-form, object-stands, stands-object}
 use Rattle.rules.proofs.Records.{number-twins}

@@ -12,10 +12,10 @@ use Rattle.rules.specs.declared.Fault.{Fault}
 use Rattle.rules.specs.declared.Layout.{Layout}
 use Rattle.rules.specs.Refusals.{if_then_else_, fault, objectDoesNotFit, tableNotSound, tooDeep, textNotUtf8}
 use Rattle.rules.specs.Bytes.{Octets, padded, ones32, ones64}
-use Rattle.rules.specs.TypeTable.{TypeTable, Edition, eightByteEnvelopes, envelopeSize, FidlType, bool, number, handle, array, vector, string, struct, box, table, union, none, typeOf, memberRows, Content, known, unknown, contentOf, below}
+use Rattle.rules.specs.TypeTable.{Edition, eightByteEnvelopes, envelopeSize, FidlType, bool, number, handle, array, vector, string, struct, box, table, union, none, typeOf, memberRows, Content, known, unknown, contentOf, below}
 use Rattle.rules.specs.Sizes.{Field, field, fieldsOf, fieldsSize, structSize, layoutAs, layoutBelow, layoutOf, sizeOf}
 use Rattle.rules.specs.Text.{isUtf8}
-use Rattle.rules.specs.Trace.{Event, claimed, presentHandle, vectorObject, boxedObject, envelopesObject, payloadObject}
+use Rattle.rules.specs.Trace.{Event, claimed, vectorObject, boxedObject, envelopesObject, payloadObject}
 use Rattle.rules.specs.Decode as D
 use Rattle.rules.specs.Decode.{Message, went, stopped, Decoder}
 use Rattle.rules.specs.Encode as E
@@ -26,7 +26,7 @@ use Rattle.rules.specs.Walk as W
 use Rattle.rules.specs.Writer as R
 use Rattle.rules.proofs.Bytes.{padded-above}
 use Rattle.rules.proofs.Results.{stopped-not-went, cannot-not-wrote, require-inv, After, after-inv}
-use Rattle.rules.proofs.Twins.{Decodes, decodes, Encodes, Twins, twins-nothing, twins-refuse, twins-size, twins-sequence, twins-elements, twins-fill}
+use Rattle.rules.proofs.Twins.{Decodes, decodes, Twins, twins-nothing, twins-refuse, twins-size, twins-sequence, twins-elements, twins-fill}
 use Rattle.rules.proofs.Claims.{twins-handle, twins-record, twins-claim}
 use Rattle.rules.proofs.Records.{number-twins, presence-twins, count-twins, table-twins}
 use Rattle.rules.proofs.Envelopes.{twins-checked, twins-numbered, twins-flagged}

@@ -1,6 +1,5 @@
 -- The whole answers of the operations, from any inputs: document 01's section "Numbers and places".
 -- Assumes nothing.
-use mathlib.Core.Bool.{Bool, true, false}
 use mathlib.Core.List.{List, [], _∷_}
 use Prim.Native.Nat.{ℕ, _-_}
 use lib.Dec.{leb, ltb, eqb}

@@ -6,12 +6,12 @@ use mathlib.Core.Logic.{_↔_}
 use mathlib.Core.List.{List}
 use Prim.Native.Nat.{ℕ, _+_, _≤_}
 use lib.ListN.{length}
-use Rattle.rules.specs.Refusals.{Answer, accepted}
+use Rattle.rules.specs.Refusals.{accepted}
 use Rattle.rules.specs.Bytes.{Octets}
 use Rattle.rules.specs.TypeTable.{TypeTable}
 use Rattle.rules.specs.Trace.{Event, objectList, presentHandles, unknownHandles, unknownOutOfLine, Tiles, unknownLengths}
 use Rattle.rules.specs.Decode.{Message, traceOf}
-use Rattle.rules.specs.Answers.{walk, check, readValues, readObjects, Written, write}
+use Rattle.rules.specs.Answers.{walk, check, readValues, readObjects, write}
 
 module _ (t : TypeTable) (root : ℕ) where
   abbrev pub message : (bytes : List ℕ) (handles : ℕ) → Message

@@ -5,7 +5,7 @@ use mathlib.Core.List.{List, [], _∷_, _++_}
 use Prim.Native.Nat.{ℕ, zero, suc, _+_, _-_}
 use lib.Dec.{leb}
 use lib.ListN.{length, take}
-use Rattle.rules.specs.Refusals.{if_then_else_, messageTooLong, tooManyHandles, tooDeep, notAValue}
+use Rattle.rules.specs.Refusals.{messageTooLong, tooManyHandles, tooDeep, notAValue}
 use Rattle.rules.specs.Bytes.{zeros, padded}
 
 -- A part wrote its in-line bytes and the bytes of the objects it claimed, which only ever are put one after the other;

@@ -2,7 +2,7 @@
 -- Assumes nothing.
 use mathlib.Core.Bool.{Bool, true, false, _&&_}
 use mathlib.Core.List.{List, [], _∷_, _++_}
-use Prim.Native.Nat.{ℕ, zero, suc, _+_, _-_, _*_, _/_, _%_}
+use Prim.Native.Nat.{ℕ, _+_, _-_, _/_, _%_}
 use lib.Dec.{leb, ltb, eqb}
 use Rattle.rules.specs.declared.Place.the-variants.{Byte}
 use Rattle.rules.specs.Refusals.{if_then_else_, fault, envelopeFormWrong, envelopeNumberWrong}

@@ -1,12 +1,12 @@
 -- The transactional header: document 01's section "The header".
 -- Assumes nothing.
-use mathlib.Core.Bool.{Bool, true, false, not, _&&_, _||_}
+use mathlib.Core.Bool.{Bool, not, _||_}
 use mathlib.Core.List.{List, [], _∷_, _++_}
 use Prim.Native.Nat.{ℕ}
 use lib.Dec.{leb, eqb}
 use lib.ListN.{length, drop, getD}
 use Rattle.rules.specs.declared.Place.the-variants.{Byte}
-use Rattle.rules.specs.Refusals.{fault, objectDoesNotFit, bytesLeft, magicWrong, ordinalZero, epitaphTransaction, Answer, accepted, refused, require, andThen}
+use Rattle.rules.specs.Refusals.{fault, objectDoesNotFit, bytesLeft, magicWrong, ordinalZero, epitaphTransaction, Answer, accepted, refused, require}
 use Rattle.rules.specs.Bytes.{word, bytesOf, part, ones64}
 use Rattle.rules.specs.Answers.{requireLength, requireRoom}
 

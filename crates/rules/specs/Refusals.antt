@@ -1,7 +1,7 @@
 -- Refusals and answers: the numbers of document 01's table, each written here once, and what an answer is.
 -- Assumes nothing.
 use mathlib.Core.Bool.{Bool, true, false}
-use mathlib.Core.List.{List, [], _++_}
+use mathlib.Core.List.{List, _++_}
 use Prim.Native.Nat.{ℕ}
 use lib.ListN.{length, drop}
 use Rattle.rules.specs.declared.Place.{Place}

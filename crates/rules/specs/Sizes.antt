@@ -1,6 +1,5 @@
 -- Sizes and alignments: document 01's section "Sizes".
 -- Assumes nothing.
-use mathlib.Core.Bool.{Bool}
 use mathlib.Core.List.{List, [], _∷_}
 use Prim.Native.Nat.{ℕ, _+_, _-_, _*_, max}
 use Rattle.rules.specs.declared.Layout.{Layout}

@@ -7,7 +7,7 @@ use lib.ListN.{length}
 use Rattle.rules.specs.declared.Place.the-variants.{Row}
 use Rattle.rules.specs.Refusals.{tableNotSound, rootNotAllowed, fault, Answer, accepted, require}
 use Rattle.rules.specs.TypeTable.{TypeTable, rowCount, memberCount, kindAt, aAt, bAt, cAt, ordinalAt, rowOf, FidlType, bool, number, handle, array, vector, string, struct, box, table, union, none, typeOf}
-use Rattle.rules.specs.Sizes.{layoutOf, sizeOf}
+use Rattle.rules.specs.Sizes.{sizeOf}
 
 -- "Lists whole": 1 to 256 rows of four numbers, 0 to 1,024 members of two.
 abbrev pub listsWhole : TypeTable → Bool

@@ -1,19 +1,19 @@
 -- The walk: document 01's section "The walk", a line for each kind. Writer.antt has its twin.
 -- Assumes nothing.
-use mathlib.Core.Bool.{Bool, true, false}
+use mathlib.Core.Bool.{true}
 use mathlib.Core.List.{List, [], _∷_}
-use Prim.Native.Nat.{ℕ, zero, suc, _+_, _*_}
+use Prim.Native.Nat.{ℕ, zero, suc, _*_}
 use lib.Dec.{eqb}
 use Rattle.rules.specs.declared.Place.the-variants.{Row, Byte}
 use Rattle.rules.specs.declared.Layout.{Layout}
 use Rattle.rules.specs.Refusals.{fault, tableNotSound, textNotUtf8}
 use Rattle.rules.specs.Bytes.{ones32, ones64}
-use Rattle.rules.specs.TypeTable.{TypeTable, envelopeSize, FidlType, bool, number, handle, array, vector, string, struct, box, table, union, none, typeOf, memberRows, Content, contentOf, below}
+use Rattle.rules.specs.TypeTable.{envelopeSize, FidlType, bool, number, handle, array, vector, string, struct, box, table, union, none, typeOf, memberRows, Content, contentOf, below}
 use Rattle.rules.specs.Sizes.{Field, field, fieldsOf, layoutBelow, sizeOf}
 use Rattle.rules.specs.Text.{isUtf8}
 use Rattle.rules.specs.Trace.{presentHandle, vectorObject, boxedObject, envelopesObject}
 use Rattle.rules.specs.Decode.{Message, Decoder, nothing, refuse, sequence, elements, recordThen, checked, Deeper, spent, deeper, oneDeeper, fill, claim, takeHandles, optionalEnvelope, lastPresent, zeroEnvelope, presentEnvelope}
-use Rattle.rules.specs.Records.{anyPattern, boolPattern, ordinalPattern, readNumber, readPresence, readCount, readTable}
+use Rattle.rules.specs.Records.{boolPattern, ordinalPattern, readNumber, readPresence, readCount, readTable}
 use Rattle.rules.specs.Envelope.{decodeWord, decodeContent}
 
 module _ (m : Message) where

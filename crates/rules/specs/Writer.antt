@@ -1,6 +1,6 @@
 -- The writer over the value list: the walk's twin, a line for each kind (document 01's "Object list and value list").
 -- Assumes nothing.
-use mathlib.Core.Bool.{Bool, true, false}
+use mathlib.Core.Bool.{true}
 use mathlib.Core.List.{List, [], _∷_}
 use Prim.Native.Nat.{ℕ, zero, suc, _*_}
 use lib.Dec.{eqb}
