@@ -9,13 +9,13 @@ use lib.Seq.{take-add, drop-drop, take-append-seam, drop-append-seam}
 use Rattle.rules.specs.Bytes.{Octets, littleEndian, bytesOf, part, word, zeros, leadingZeros, roundUp, padded}
 
 -- ---- numbers
-pub octets-take : (k : ℕ) (l : List ℕ) → Octets l → Octets (take k l)
+octets-take : (k : ℕ) (l : List ℕ) → Octets l → Octets (take k l)
 unfolding Octets
 octets-take zero l o = tt
 octets-take (suc k) [] o = tt
 octets-take (suc k) (x ∷ l) o = (o .0, octets-take k l (o .1))
 
-pub octets-drop : (k : ℕ) (l : List ℕ) → Octets l → Octets (drop k l)
+octets-drop : (k : ℕ) (l : List ℕ) → Octets l → Octets (drop k l)
 unfolding Octets
 octets-drop zero l o = o
 octets-drop (suc k) [] o = tt
@@ -26,14 +26,14 @@ unfolding bytesOf
 bytesOf-length zero v = refl
 bytesOf-length (suc k) v = ap suc (bytesOf-length k (v / 256))
 
-pub littleEndian-bytesOf : (k v : ℕ) → v < 256 ^ k → littleEndian (bytesOf k v) ≡ v
+littleEndian-bytesOf : (k v : ℕ) → v < 256 ^ k → littleEndian (bytesOf k v) ≡ v
 unfolding littleEndian bytesOf
 littleEndian-bytesOf zero v h = omega arith
 littleEndian-bytesOf (suc k) v h =
     let g : v < 256 ^ k * 256 = rw pow-suc at h in
     rw (littleEndian-bytesOf k (v / 256) (div-lt-iff-lt-mul (omega arith) .1 g)) (omega arith)
 
-pub bytesOf-littleEndian : (l : List ℕ) → Octets l → bytesOf (length l) (littleEndian l) ≡ l
+bytesOf-littleEndian : (l : List ℕ) → Octets l → bytesOf (length l) (littleEndian l) ≡ l
 unfolding littleEndian bytesOf Octets
 bytesOf-littleEndian [] o = refl
 bytesOf-littleEndian (b ∷ l) o =
@@ -41,7 +41,7 @@ bytesOf-littleEndian (b ∷ l) o =
     let e1 : (b + 256 * littleEndian l) / 256 ≡ littleEndian l = omega (arith, o .0) in
     rw (e0, e1, bytesOf-littleEndian l (o .1))
 
-pub littleEndian-below : (l : List ℕ) → Octets l → littleEndian l < 256 ^ length l
+littleEndian-below : (l : List ℕ) → Octets l → littleEndian l < 256 ^ length l
 unfolding littleEndian Octets
 littleEndian-below [] o = omega arith
 littleEndian-below (b ∷ l) o = rw pow-suc (omega (arith, littleEndian-below l (o .1), o .0))
@@ -55,11 +55,11 @@ pub part-length : (m : List ℕ) (p k : ℕ) → p + k ≤ length m → length (
 unfolding part
 part-length m p k h = simp (length-take, length-drop) (omega arith)
 
-pub part-octets : (m : List ℕ) (p k : ℕ) → Octets m → Octets (part m p k)
+part-octets : (m : List ℕ) (p k : ℕ) → Octets m → Octets (part m p k)
 unfolding part
 part-octets m p k o = octets-take k (drop p m) (octets-drop p m o)
 
-pub part-add : (m : List ℕ) (p j k : ℕ) → part m p (j + k) ≡ part m p j ++ part m (p + j) k
+part-add : (m : List ℕ) (p j k : ℕ) → part m p (j + k) ≡ part m p j ++ part m (p + j) k
 unfolding part
 part-add m p j k = rw (take-add, drop-drop)
 

@@ -63,12 +63,12 @@ stands-self : (bytes : List ℕ) → StandsAt bytes 0 bytes
 stands-self bytes = record { fits = omega arith; same = part-whole bytes }
 
 -- Every test that an accepted message passed.
-pub record Passed (m : Message) (root : ℕ) (r : Reading) : Type 0 where
-  pub sound : soundness (m .table) ≡ accepted tt
-  pub allowed : rootAllowed (m .table) root ≡ true
-  pub short : leb (length (m .bytes)) 65536 ≡ true
-  pub few : leb (m .handles) 64 ≡ true
-  pub walked : walk m root ≡ went (length (m .bytes)) (m .handles) (r .values) (r .trace)
+record Passed (m : Message) (root : ℕ) (r : Reading) : Type 0 where
+  sound : soundness (m .table) ≡ accepted tt
+  allowed : rootAllowed (m .table) root ≡ true
+  short : leb (length (m .bytes)) 65536 ≡ true
+  few : leb (m .handles) 64 ≡ true
+  walked : walk m root ≡ went (length (m .bytes)) (m .handles) (r .values) (r .trace)
 
 finished-inv : (m : Message) (d : Decoded) (r : Reading) → finished m d ≡ accepted r → d ≡ went (length (m .bytes)) (m .handles) (r .values) (r .trace)
 finished-inv m (stopped f vs t) r e = absurd (refused-not-accepted e)
@@ -96,11 +96,11 @@ passed m root r e =
 -- ---- reading, then writing
 
 -- What an accepted message says of itself, before room is asked for.
-pub record Says (m : Message) (root : ℕ) (r : Reading) : Type 0 where
-  pub writes : written (m .table) root (r .values) ≡ accepted (record { bytes = m .bytes; handles = m .handles })
-  pub tiles : Tiles 0 (length (m .bytes)) (objectList (r .trace))
-  pub handles : m .handles ≡ allHandles (r .trace)
-  pub unknowns : UnknownAreObjects (r .trace)
+record Says (m : Message) (root : ℕ) (r : Reading) : Type 0 where
+  writes : written (m .table) root (r .values) ≡ accepted (record { bytes = m .bytes; handles = m .handles })
+  tiles : Tiles 0 (length (m .bytes)) (objectList (r .trace))
+  handles : m .handles ≡ allHandles (r .trace)
+  unknowns : UnknownAreObjects (r .trace)
 
 says-go : (m : Message) (root : ℕ) (r : Reading) → soundness (m .table) ≡ accepted tt → rootAllowed (m .table) root ≡ true
     → (y : Encodes m (E.claim (sizeOf (m .table) root) (R.encodeRow (m .table) (R.levels (m .table) 32) root)) 0 0 0 (length (m .bytes)) (m .handles) (r .values) (r .trace) [])

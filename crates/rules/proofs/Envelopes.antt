@@ -24,7 +24,7 @@ use Rattle.rules.proofs.Twins.{WellFormed, Decodes, decodes, Encodes, T
 
 -- ---- a test of the values
 
-pub data Checked (holds : List ℕ → Bool) (r : Encoded) (vs : List ℕ) (inl ool : List ℕ) (n u : ℕ) (rest : List ℕ) : Type 0 where
+data Checked (holds : List ℕ → Bool) (r : Encoded) (vs : List ℕ) (inl ool : List ℕ) (n u : ℕ) (rest : List ℕ) : Type 0 where
   passed : r ≡ wrote inl ool n u rest → holds (take (length vs - length rest) vs) ≡ true → Checked holds r vs inl ool n u rest
 
 checked-inv : (holds : List ℕ → Bool) (vs : List ℕ) (r : Encoded) {inl ool : List ℕ} {n u : ℕ} {rest : List ℕ}
@@ -79,7 +79,7 @@ pub nil-of : (l : List ℕ) → length l ≡ 0 → l ≡ []
 nil-of [] e = refl
 nil-of (x ∷ l) e = absurd (omega arith)
 
-pub data Numbered (r : Encoded) (n n₁ u₁ : ℕ) (rest : List ℕ) : List ℕ → List ℕ → Type 0 where
+data Numbered (r : Encoded) (n n₁ u₁ : ℕ) (rest : List ℕ) : List ℕ → List ℕ → Type 0 where
   numbered : {inl ool : List ℕ} → r ≡ wrote inl ool n₁ u₁ rest → Numbered r n n₁ u₁ rest (bytesOf 4 (n₁ - n)) ool
 
 numbered-inv : (n : ℕ) (r : Encoded) {inl ool : List ℕ} {n₁ u₁ : ℕ} {rest : List ℕ} → byteNumberGoes n r ≡ wrote inl ool n₁ u₁ rest → Numbered r n n₁ u₁ rest inl ool
@@ -144,7 +144,7 @@ module _ (m : Message) (oct : Octets (m .bytes)) (short : length (m .bytes) ≤ 
 
 -- ---- handle number and flags
 
-pub data Flagged (r : Encoded) (form u n₁ u₁ : ℕ) (rest : List ℕ) : List ℕ → List ℕ → Type 0 where
+data Flagged (r : Encoded) (form u n₁ u₁ : ℕ) (rest : List ℕ) : List ℕ → List ℕ → Type 0 where
   flagged-as : {inl ool : List ℕ} → r ≡ wrote inl ool n₁ u₁ rest → Flagged r form u n₁ u₁ rest (inl ++ (bytesOf 2 (u₁ - u) ++ bytesOf 2 form)) ool
 
 flagged-inv : (form u : ℕ) (r : Encoded) {inl ool : List ℕ} {n₁ u₁ : ℕ} {rest : List ℕ} → flagsGo form u r ≡ wrote inl ool n₁ u₁ rest → Flagged r form u n₁ u₁ rest inl ool

@@ -33,7 +33,7 @@ not-zero m size at h f = go (D.isZero m at size) refl
 
 -- ---- an envelope that may be absent
 
-pub data WriteOptional (size : ℕ) (last : Bool) (g : Encoder) (n u : ℕ) (rest : List ℕ) : ℕ → ℕ → List ℕ → List ℕ → List ℕ → Type 0 where
+data WriteOptional (size : ℕ) (last : Bool) (g : Encoder) (n u : ℕ) (rest : List ℕ) : ℕ → ℕ → List ℕ → List ℕ → List ℕ → Type 0 where
   absent : not last ≡ true → WriteOptional size last g n u rest n u (0 ∷ rest) (zeros size) []
   present : {n₁ u₁ : ℕ} {vs inl ool : List ℕ} → g vs n u ≡ wrote inl ool n₁ u₁ rest → WriteOptional size last g n u rest n₁ u₁ (1 ∷ vs) inl ool
 
@@ -53,7 +53,7 @@ write-optional-inv size last g (zero ∷ vs) {n} {u} {n₁} {u₁} {inl} {ool} {
 write-optional-inv size last g (suc zero ∷ vs) e = present e
 write-optional-inv size last g (suc (suc v) ∷ vs) e = absurd (cannot-not-wrote e)
 
-pub data Optional (m : Message) (size : ℕ) (last : Bool) (f : Decoder) (at n u : ℕ) : ℕ → ℕ → List ℕ → List Event → Type 0 where
+data Optional (m : Message) (size : ℕ) (last : Bool) (f : Decoder) (at n u : ℕ) : ℕ → ℕ → List ℕ → List Event → Type 0 where
   absent : D.isZero m at size ≡ true → not last ≡ true → Optional m size last f at n u n u (0 ∷ []) []
   present : {n₁ u₁ : ℕ} {vs : List ℕ} {t : List Event} → D.isZero m at size ≡ false → f at n u ≡ went n₁ u₁ vs t → Optional m size last f at n u n₁ u₁ (1 ∷ vs) t
 

@@ -65,7 +65,7 @@ plain-form bytes o l {vs} {n} {u} {inl} {ool} {n₁} {u₁} {rest} e =
     rw (← a, ← b, ← c, ← d)
     (record { sized = l; advances = omega arith; used = omega arith; inlineOctets = o; outOctets = octets-nil; withinBytes = omega arith; withinHandles = omega arith; whole = omega arith })
 
-pub plain-decodes : {f : Decoder} (bytes : List ℕ) {at : ℕ} {vs : List ℕ} {n u : ℕ} {inl ool : List ℕ} {n₁ u₁ : ℕ} {rest : List ℕ}
+plain-decodes : {f : Decoder} (bytes : List ℕ) {at : ℕ} {vs : List ℕ} {n u : ℕ} {inl ool : List ℕ} {n₁ u₁ : ℕ} {rest : List ℕ}
     → wrote bytes [] n u vs ≡ wrote inl ool n₁ u₁ rest → f at n u ≡ went n u [] [] → Decodes f at n u n₁ u₁ vs rest
 plain-decodes bytes {at} {vs} {n} {u} {inl} {ool} {n₁} {u₁} {rest} e q =
     let x : vs ≡ rest = cc in
@@ -73,7 +73,7 @@ plain-decodes bytes {at} {vs} {n} {u} {inl} {ool} {n₁} {u₁} {rest} e q =
     let d : u ≡ u₁ = cc in
     rw (x, ← c, ← d) (decodes [] [] q)
 
-pub plain-encodes : (m : Message) {g : Encoder} (bytes : List ℕ) {at n u n₁ u₁ : ℕ} {vs : List ℕ} {t : List Event} (rest : List ℕ)
+plain-encodes : (m : Message) {g : Encoder} (bytes : List ℕ) {at n u n₁ u₁ : ℕ} {vs : List ℕ} {t : List Event} (rest : List ℕ)
     → went n u [] [] ≡ went n₁ u₁ vs t → g rest n u ≡ wrote bytes [] n u rest → StandsAt (m .bytes) at bytes → n ≤ length (m .bytes) → Encodes m g at n u n₁ u₁ vs t rest
 unfolding objectList presentHandles unknownHandles unknownOutOfLine unknownLengths Tiles
 plain-encodes m bytes {at} {n} {u} {n₁} {u₁} {vs} {t} rest e q h k =

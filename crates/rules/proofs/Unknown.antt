@@ -26,7 +26,7 @@ use Rattle.rules.proofs.Records.{number-twins}
 use Rattle.rules.proofs.Envelopes.{tail-stands, stands-tail}
 use Rattle.rules.proofs.Presence.{NeverZero}
 
-pub and-inv : (a b : Bool) → a && b ≡ true → (a ≡ true) × (b ≡ true)
+and-inv : (a b : Bool) → a && b ≡ true → (a ≡ true) × (b ≡ true)
 and-inv true b e = (refl, e)
 and-inv false b e = let z : _≡_ {A = ℕ} 0 1 = cc in absurd (omega arith)
 
@@ -63,7 +63,7 @@ envelope-stands m at form o l e =
 
 -- ---- what the writer takes
 
-pub data NumberOf (holds : ℕ → Bool) (k : ℕ → Encoder) (n u n₁ u₁ : ℕ) (rest : List ℕ) : List ℕ → List ℕ → List ℕ → Type 0 where
+data NumberOf (holds : ℕ → Bool) (k : ℕ → Encoder) (n u n₁ u₁ : ℕ) (rest : List ℕ) : List ℕ → List ℕ → List ℕ → Type 0 where
   number-of : {v : ℕ} {vs inl ool : List ℕ} → holds v ≡ true → k v vs n u ≡ wrote inl ool n₁ u₁ rest → NumberOf holds k n u n₁ u₁ rest (v ∷ vs) inl ool
 
 number-inv : (holds : ℕ → Bool) (k : ℕ → Encoder) (vs : List ℕ) {n u n₁ u₁ : ℕ} {rest inl ool : List ℕ} → E.numberThen holds k vs n u ≡ wrote inl ool n₁ u₁ rest
@@ -75,7 +75,7 @@ number-inv holds k (v ∷ vs) {n} {u} e =
     number-of (i .0) (i .1)
 
 -- Handles, then a part.
-pub data TakenThen (count : ℕ) (k : Encoder) (vs : List ℕ) (n u n₁ u₁ : ℕ) (inl ool rest : List ℕ) : Type 0 where
+data TakenThen (count : ℕ) (k : Encoder) (vs : List ℕ) (n u n₁ u₁ : ℕ) (inl ool rest : List ℕ) : Type 0 where
   taken-then : u + count ≤ 64 → k vs n (u + count) ≡ wrote inl ool n₁ u₁ rest → TakenThen count k vs n u n₁ u₁ inl ool rest
 
 taken-join : {count : ℕ} {k : Encoder} {vs : List ℕ} {n u n₁ u₁ n₂ u₂ : ℕ} {inl₁ ool₁ rest₁ inl ool rest : List ℕ} → Taken count vs n u inl₁ ool₁ n₁ u₁ rest₁
@@ -92,7 +92,7 @@ unfolding E.sequence
 taken-then-inv count k vs n u e = taken-then-go (write-then-inv (E.takeHandles count vs n u) k e)
 
 -- Unknown content that was written, in line or out of line.
-pub data Wrote (n u : ℕ) (rest : List ℕ) : ℕ → ℕ → List ℕ → List ℕ → List ℕ → Type 0 where
+data Wrote (n u : ℕ) (rest : List ℕ) : ℕ → ℕ → List ℕ → List ℕ → List ℕ → Type 0 where
   inside : {h w : ℕ} → h < 65536 → u + h ≤ 64 → w < 4294967296 → Wrote n u rest n (u + h) (0 ∷ h ∷ w ∷ rest) (envelopeBytes w h inLine) []
   outside : {x h n₁ u₁ : ℕ} {vs inl ool : List ℕ} → 0 < x → x % 8 ≡ 0 → x < 4294967296 → leb (n + padded x) 65536 ≡ true → h < 65536 → u + h ≤ 64
       → AsObject x (E.elements (λ i. encodeWord 8) 0 (x / 8) vs (n + padded x) (u + h)) n₁ u₁ rest inl ool → Wrote n u rest n₁ u₁ (x ∷ h ∷ vs) (envelopeBytes x h outOfLine) ool
@@ -290,13 +290,13 @@ module _ (m : Message) (oct : Octets (m .bytes)) (short : length (m .bytes) ≤ 
       }
 
   -- What holds of an envelope that is out of line, and of the place of its content.
-  pub record Outside (at n : ℕ) : Type 0 where
-    pub positive : 0 < lowWord m at
-    pub multiple : lowWord m at % 8 ≡ 0
-    pub form : flags m at ≡ outOfLine
-    pub fits : n + padded (lowWord m at) ≤ length (m .bytes)
-    pub filled : D.isZero m (n + lowWord m at) (padded (lowWord m at) - lowWord m at) ≡ true
-    pub inline : at + 8 ≤ length (m .bytes)
+  record Outside (at n : ℕ) : Type 0 where
+    positive : 0 < lowWord m at
+    multiple : lowWord m at % 8 ≡ 0
+    form : flags m at ≡ outOfLine
+    fits : n + padded (lowWord m at) ≤ length (m .bytes)
+    filled : D.isZero m (n + lowWord m at) (padded (lowWord m at) - lowWord m at) ≡ true
+    inline : at + 8 ≤ length (m .bytes)
 
   outside-taken : {at n u n₂ u₂ n₁ u₁ : ℕ} {vs₁ vs : List ℕ} {t₁ t : List Event} → Outside at n
       → Took m (unknownContent (lowWord m at) (handleNumber m at)) (n + padded (lowWord m at)) u n₂ u₂ vs₁ t₁

@@ -39,7 +39,7 @@ pub data DeeperTwins (m : Message) : D.Deeper → E.Deeper → Type 0 where
   both-deeper : {F : ℕ → Decoder} {G : ℕ → Encoder} {d : D.Deeper} {e : E.Deeper} → ((row : ℕ) → Twins m (sizeOf (m .table) row) (F row) (G row)) → DeeperTwins m d e
       → DeeperTwins m (D.deeper F d) (E.deeper G e)
 
-pub twins-deeper : (m : Message) (s at : ℕ) {d : D.Deeper} {e : E.Deeper} (k : (ℕ → Decoder) → D.Deeper → Decoder) (k₂ : (ℕ → Encoder) → E.Deeper → Encoder)
+twins-deeper : (m : Message) (s at : ℕ) {d : D.Deeper} {e : E.Deeper} (k : (ℕ → Decoder) → D.Deeper → Decoder) (k₂ : (ℕ → Encoder) → E.Deeper → Encoder)
     → ((F : ℕ → Decoder) (G : ℕ → Encoder) (d : D.Deeper) (e : E.Deeper) → ((row : ℕ) → Twins m (sizeOf (m .table) row) (F row) (G row)) → DeeperTwins m d e → Twins m s (k F d) (k₂ G e))
     → DeeperTwins m d e → Twins m s (D.oneDeeper d at k) (E.oneDeeper e k₂)
 twins-deeper m s at k k₂ f both-spent = twins-refuse m s (fault tooDeep (Byte at)) tooDeep
@@ -64,7 +64,7 @@ module _ (m : Message) (kind row : ℕ) {s : ℕ} {f : Decoder} {g : Encoder} (p
       let y = a .encodesWhatWasDecoded e (omega arith) h [] in
       omega (arith, a .wellFormed (y .writes) .advances)
 
-  pub claim-grows : Grows m (D.claim m kind row s f)
+  claim-grows : Grows m (D.claim m kind row s f)
   unfolding D.claim
   claim-grows = record {
     grows = λ {at} {n} {u} e h k.
