@@ -76,7 +76,6 @@ finished-inv m (went n u vs t) r e =
     let held : Reading = record { values = vs; trace = t } in
     let i = require-accepted (eqb n (length (m .bytes))) (fault bytesLeft (Byte n)) (require (eqb u (m .handles)) (fault handlesLeft (Amount u)) (accepted held)) e in
     let j = require-accepted (eqb u (m .handles)) (fault handlesLeft (Amount u)) (accepted held) (i .1) in
-    let q : accepted held ≡ accepted r = j .1 in
     let h : held ≡ r = cc in
     let v : vs ≡ r .values = ap (λ (s : Reading). s .values) h in
     let w : t ≡ r .trace = ap (λ (s : Reading). s .trace) h in
@@ -202,9 +201,7 @@ module _ (t : TypeTable) (root : ℕ) where
   unfolding readValues
   value-inv bytes values handles v =
       let i = then-accepted (judged (message t root bytes handles) root) _ (v (length values) (omega arith)) in
-      let r = i .0 in
       let j = require-accepted (leb (length (i .0 .values)) (length values)) (fault roomTooSmall (Amount (length (i .0 .values)))) (accepted (i .0 .values)) (i .2) in
-      let q : accepted (i .0 .values) ≡ accepted values = j .1 in
       (i .0, i .1, cc)
 
   written-inv : (values bytes : List ℕ) (handles : ℕ) → IsWrittenTo t root values bytes handles → written t root values ≡ accepted (record { bytes = bytes; handles = handles })
@@ -244,7 +241,6 @@ module _ (t : TypeTable) (root : ℕ) where
 
   canonical-of : (bytes : List ℕ) (handles : ℕ) (r : Reading) → Octets bytes → judged (message t root bytes handles) root ≡ accepted r → Canonical t root bytes handles
   canonical-of bytes handles r oct e =
-      let m = message t root bytes handles in
       let s = says (message t root bytes handles) root r oct e in
       let p = passed (message t root bytes handles) root r e in
       record {
@@ -275,8 +271,6 @@ module _ (t : TypeTable) (root : ℕ) where
   same-value bytes bytes₂ values values₂ handles handles₂ q v v₂ =
       let i = value-inv bytes values handles v in
       let j = value-inv bytes₂ values₂ handles₂ v₂ in
-      let e : judged (message t root bytes handles) root ≡ judged (message t root bytes₂ handles₂) root = rw (q .0, q .1) in
-      let a : accepted (i .0) ≡ accepted (j .0) = sym (i .1) ∙ e ∙ j .1 in
       let r : i .0 ≡ j .0 = cc in
       sym (i .2) ∙ ap (λ (r : Reading). r .values) r ∙ j .2
 

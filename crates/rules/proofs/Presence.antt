@@ -43,7 +43,6 @@ unfolding E.optionalEnvelope
 write-optional-inv size last g [] e = absurd (cannot-not-wrote e)
 write-optional-inv size last g (zero ∷ vs) {n} {u} {n₁} {u₁} {inl} {ool} {rest} e =
     let i = write-require-inv (not last) notAValue (E.lastTaken vs) (wrote (zeros size) [] n u vs) e in
-    let q : wrote (zeros size) [] n u vs ≡ wrote inl ool n₁ u₁ rest = i .1 in
     let a : inl ≡ zeros size = cc in
     let b : ool ≡ [] = cc in
     let c : n₁ ≡ n = cc in
@@ -65,7 +64,6 @@ optional-go : (m : Message) (size : ℕ) (last : Bool) (f : Decoder) (at n u : �
     → (if b then D.requireLast m (not last) at (went n u (0 ∷ []) []) else D.after (1 ∷ []) [] (f at n u)) ≡ went n₁ u₁ vs t → Optional m size last f at n u n₁ u₁ vs t
 optional-go m size last f at n u true q {n₁} {u₁} {vs} {t} e =
     let i = require-inv (not last) (fault lastEnvelopeZero (Byte at)) (went n u (0 ∷ []) []) e in
-    let w : went n u (0 ∷ []) [] ≡ went n₁ u₁ vs t = i .1 in
     let a : n₁ ≡ n = cc in
     let b : u₁ ≡ u = cc in
     let c : vs ≡ 0 ∷ [] = cc in

@@ -92,25 +92,21 @@ module _ (m : Message) (oct : Octets (m .bytes)) where
     sized = λ {v} {bytes} e.
         let i = if-inv (ltb v (256 ^ k)) (writeIf (judge v) (put (bytesOf k v))) e in
         let j = writeIf-inv (judge v) (put (bytesOf k v)) (i .1) in
-        let x : put (bytesOf k v) ≡ put bytes = j .1 in
         let y : bytesOf k v ≡ bytes = cc in
         rw (← y) (bytesOf-length k v);
     octets = λ {v} {bytes} e.
         let i = if-inv (ltb v (256 ^ k)) (writeIf (judge v) (put (bytesOf k v))) e in
         let j = writeIf-inv (judge v) (put (bytesOf k v)) (i .1) in
-        let x : put (bytesOf k v) ≡ put bytes = j .1 in
         let y : bytesOf k v ≡ bytes = cc in
         rw (← y) (octets-bytesOf k v);
     readsWhatWasWritten = λ {v} {bytes} {at} e h.
         let i = if-inv (ltb v (256 ^ k)) (writeIf (judge v) (put (bytesOf k v))) e in
         let j = writeIf-inv (judge v) (put (bytesOf k v)) (i .1) in
-        let x : put (bytesOf k v) ≡ put bytes = j .1 in
         let y : bytes ≡ bytesOf k v = cc in
         let w : word (m .bytes) at k ≡ v = word-standing (m .bytes) at k v (ltb-true v (256 ^ k) (i .0)) (rw y at h) in
         rw (w, j .0);
     writesWhatWasRead = λ {at} {v} e h.
         let i = readIf-inv (judge (word (m .bytes) at k)) at (got (word (m .bytes) at k)) e in
-        let x : got (word (m .bytes) at k) ≡ got v = i .1 in
         let y : word (m .bytes) at k ≡ v = cc in
         let z : ltb v (256 ^ k) ≡ true = lt-ltb v (256 ^ k) (rw y at (word-below (m .bytes) at k oct h)) in
         let p : judge v ≡ passes = rw y at (i .0) in
@@ -131,7 +127,6 @@ module _ (m : Message) (oct : Octets (m .bytes)) where
     unfolding writePresence readPresence
     presence-reads zero bytes at e h =
         let i = if-inv optional (put (bytesOf k 0)) e in
-        let x : put (bytesOf k 0) ≡ put bytes = i .1 in
         let y : bytes ≡ bytesOf k 0 = cc in
         let w : word (m .bytes) at k ≡ 0 = word-standing (m .bytes) at k 0 (omega arith) (rw y at h) in
         rw (w, presence-zero ones, i .0)
@@ -146,7 +141,6 @@ module _ (m : Message) (oct : Octets (m .bytes)) where
     unfolding writePresence
     presence-writes at v absent q e h =
         let i = readIf-inv (unless requiredAbsent optional) at (got 0) e in
-        let x : got 0 ≡ got v = i .1 in
         let y : v ≡ 0 = cc in
         let w : word (m .bytes) at k ≡ 0 = absent-zero ones _ q in
         (bytesOf k 0, rw (y, unless-inv requiredAbsent optional (i .0)), rw w at (standing-word (m .bytes) at k oct h))
@@ -202,7 +196,6 @@ module _ (m : Message) (oct : Octets (m .bytes)) where
     unfolding writeCount readCount presence
     count-reads zero bytes at e h =
         let i = if-inv optional (put (countBytes 0 0)) e in
-        let x : put (countBytes 0 0) ≡ put bytes = i .1 in
         let y : bytes ≡ countBytes 0 0 = cc in
         let w = two-standing (m .bytes) at 0 0 (omega arith) (omega arith) (rw y at h) in
         rw (w .0, w .1, i .0)
@@ -217,14 +210,12 @@ module _ (m : Message) (oct : Octets (m .bytes)) where
     count-writes at v absent q e h =
         let i = readIf-inv (unless requiredAbsent optional) at (readIf (unless absentNotZero (eqb (word (m .bytes) at 8) 0)) at (got 0)) e in
         let j = readIf-inv (unless absentNotZero (eqb (word (m .bytes) at 8) 0)) at (got 0) (i .1) in
-        let x : got 0 ≡ got v = j .1 in
         let y : v ≡ 0 = cc in
         let w₁ : word (m .bytes) at 8 ≡ 0 = eqb-true _ _ (unless-inv absentNotZero _ (j .0)) in
         let w₂ : word (m .bytes) (at + 8) 8 ≡ 0 = absent-zero ones64 _ q in
         (countBytes 0 0, rw (y, unless-inv requiredAbsent optional (i .0)), rw (w₁, w₂) at (standing-two (m .bytes) at oct h))
     count-writes at v present q e h =
         let j = readIf-inv (unless countOverLargest (leb (word (m .bytes) at 8) largest)) at (got (suc (word (m .bytes) at 8))) e in
-        let x : got (suc (word (m .bytes) at 8)) ≡ got v = j .1 in
         let y : v ≡ suc (word (m .bytes) at 8) = cc in
         let w = present-writes at q h in
         (countBytes (word (m .bytes) at 8) ones64, rw (y, w .0, unless-inv countOverLargest (leb (word (m .bytes) at 8) largest) (j .0)), w .1)

@@ -137,7 +137,6 @@ pub took-inv : (m : Message) (word-at : ℕ) (event : Event) (at n u : ℕ) {n�
 unfolding D.takeHandles
 took-inv m word-at event at n u {n₁} {u₁} {vs} {t} e =
     let i = require-inv (leb (u + handlesOf event) (m .handles)) (fault tooFewHandles (Byte word-at)) (went n (u + handlesOf event) [] (event ∷ [])) e in
-    let q : went n (u + handlesOf event) [] (event ∷ []) ≡ went n₁ u₁ vs t = i .1 in
     let a : n₁ ≡ n = cc in
     let b : u₁ ≡ u + handlesOf event = cc in
     let c : vs ≡ [] = cc in
@@ -151,7 +150,6 @@ pub taken-inv : (count : ℕ) (vs : List ℕ) (n u : ℕ) {inl ool : List ℕ} {
 unfolding E.takeHandles
 taken-inv count vs n u {inl} {ool} {n₁} {u₁} {rest} e =
     let i = write-require-inv (leb (u + count) 64) tooManyHandles (E.lastTaken vs) (wrote [] [] n (u + count) vs) e in
-    let q : wrote [] [] n (u + count) vs ≡ wrote inl ool n₁ u₁ rest = i .1 in
     let a : inl ≡ [] = cc in
     let b : ool ≡ [] = cc in
     let c : n₁ ≡ n = cc in
