@@ -1,4 +1,4 @@
--- Tests after a part; the numbers and flags of an envelope; envelopes that may be absent, must be, or may not be.
+-- Tests after a part; the byte number, handle number and flags of an envelope: their twins.
 use mathlib.Core.Path.{_≡_, refl}
 use mathlib.Core.Bool.{Bool, true}
 use mathlib.Core.List.{List, [], _∷_, _++_}
