@@ -11,8 +11,14 @@ const CASE_ROOM: usize = 262144;
 
 const MESSAGE_ROOM: usize = 131072;
 
+// More than a type table's list may hold, so that lists that are too long can be handed on as they are.
+const LIST_ROOM: usize = 4096;
+
+// More than a header's 16 bytes.
+const OUTPUT_ROOM: usize = 64;
+
 // Operations are numbered from 1 on; as 0 counts a case that names none of them.
-const OPERATIONS: usize = 2;
+const OPERATIONS: usize = 6;
 
 const FAILURES_SHOWN: usize = 8;
 
@@ -51,7 +57,7 @@ fn run(text: &[u8]) {
 }
 
 fn operation_of(case: &[u64]) -> usize {
-    let operation = stream::number(case, 0) as usize;
+    let operation = words::value_at(case, 0) as usize;
     if operation < OPERATIONS { operation } else { 0 }
 }
 
@@ -115,6 +121,10 @@ fn message_room() -> [u8; MESSAGE_ROOM]
 fn write_name(operation: usize) -> bool {
     match operation {
         1 => io::write_all(1, b"is_utf8"),
+        2 => io::write_all(1, b"sound"),
+        3 => io::write_all(1, b"layout"),
+        4 => io::write_all(1, b"header_read"),
+        5 => io::write_all(1, b"header_write"),
         _ => io::write_all(1, b"no operation"),
     }
 }
@@ -122,6 +132,10 @@ fn write_name(operation: usize) -> bool {
 fn passes(operation: usize, case: &[u64]) -> bool {
     match operation {
         1 => is_utf8(case),
+        2 => sound(case),
+        3 => layout_of(case),
+        4 => header_read(case),
+        5 => header_write(case),
         _ => false,
     }
 }
@@ -132,8 +146,145 @@ fn is_utf8(case: &[u64]) -> bool {
     let mut message = message_room();
     let count = stream::to_bytes(numbers, &mut message);
     let next = 2 + numbers.len();
-    let at = stream::number(case, next) as usize;
-    let length = stream::number(case, next + 1) as usize;
+    let at = words::value_at(case, next) as usize;
+    let length = words::value_at(case, next + 1) as usize;
     let answer = [text::is_utf8(&message[..count], at, length) as u64];
     stream::same(stream::rest(case, next + 2), &answer)
+}
+
+// The place of a refusal, as the number that document 01 answers.
+fn place_number(f: rules::Fault) -> u64 {
+    let place = f.place;
+    match place {
+        rules::Place::Row(row) => row as u64,
+        rules::Place::Byte(offset) => offset as u64,
+        rules::Place::Index(index) => index as u64,
+        rules::Place::Amount(amount) => amount as u64,
+    }
+}
+
+// The row list and the member list; number and place.
+fn sound(case: &[u64]) -> bool {
+    let row_list = stream::list(case, 1);
+    let at_members = 2 + row_list.len();
+    let member_list = stream::list(case, at_members);
+    let mut rows = [0u32; LIST_ROOM];
+    let mut members = [0u32; LIST_ROOM];
+    let row_numbers = stream::to_words(row_list, &mut rows);
+    let member_numbers = stream::to_words(member_list, &mut members);
+    let prepared = layout::prepare(&rows[..row_numbers], &members[..member_numbers]);
+    let answer = stream::rest(case, at_members + 1 + member_list.len());
+    let verdict = prepared.verdict;
+    match verdict {
+        layout::Soundness::Sound => stream::same(answer, &[0, 0]),
+        layout::Soundness::Refused(f) => stream::same(answer, &[f.number as u64, place_number(f)]),
+    }
+}
+
+// The row list, the member list and the row; number, place, size and alignment.
+fn layout_of(case: &[u64]) -> bool {
+    let row_list = stream::list(case, 1);
+    let at_members = 2 + row_list.len();
+    let member_list = stream::list(case, at_members);
+    let at_row = at_members + 1 + member_list.len();
+    let mut rows = [0u32; LIST_ROOM];
+    let mut members = [0u32; LIST_ROOM];
+    let row_numbers = stream::to_words(row_list, &mut rows);
+    let member_numbers = stream::to_words(member_list, &mut members);
+    let row = (words::value_at(case, at_row) % 4294967296) as u32;
+    let answer = stream::rest(case, at_row + 1);
+    match layout::layout_of(&rows[..row_numbers], &members[..member_numbers], row) {
+        layout::LayoutAnswer::Laid(l) => stream::same(
+            answer,
+            &[0, 0, l.size as u64, l.alignment as u64],
+        ),
+        layout::LayoutAnswer::Refused(f) => stream::same(
+            answer,
+            &[f.number as u64, place_number(f), 0, 0],
+        ),
+    }
+}
+
+// The message; number, place, transaction number, three flags, ordinal, and where the body starts and ends.
+fn header_read(case: &[u64]) -> bool {
+    let numbers = stream::list(case, 1);
+    let mut message = message_room();
+    let count = stream::to_bytes(numbers, &mut message);
+    let answer = stream::rest(case, 2 + numbers.len());
+    let bytes = &message[..count];
+    let length = header::body(bytes).len() as u64;
+    match header::read_header(bytes) {
+        header::HeaderAnswer::Accepted(h) => stream::same(
+            answer,
+            &[
+                0,
+                0,
+                h.transaction as u64,
+                h.flag0 as u64,
+                h.flag1 as u64,
+                h.flag2 as u64,
+                h.ordinal,
+                16,
+                16 + length,
+            ],
+        ),
+        header::HeaderAnswer::Refused(f) => {
+            stream::same(
+                answer,
+                &[f.number as u64, place_number(f), 0, 0, 0, 0, 0, 0, length],
+            )
+        }
+    }
+}
+
+// Transaction number, three flags, ordinal and room; number, place, and the bytes that were written. The output is lent
+// full of ones: past what was written, and on a refusal everywhere, they must still be there.
+fn header_write(case: &[u64]) -> bool {
+    let room = words::value_at(case, 6);
+    let mut output = [255u8; OUTPUT_ROOM];
+    let h = header::Header {
+        transaction: (words::value_at(case, 1) % 4294967296) as u32,
+        flag0: (words::value_at(case, 2) % 256) as u8,
+        flag1: (words::value_at(case, 3) % 256) as u8,
+        flag2: (words::value_at(case, 4) % 256) as u8,
+        ordinal: words::value_at(case, 5),
+    };
+    let answer = stream::first(stream::rest(case, 7), 2);
+    let bytes = stream::list(case, 9);
+    match write_within(h, &mut output, room) {
+        header::HeaderWritten::Bytes(count) => stream::same(answer, &[0, 0])
+            & wrote(&output, bytes, count),
+        header::HeaderWritten::Refused(f) => {
+            stream::same(answer, &[f.number as u64, place_number(f)]) & wrote(&output, bytes, 0)
+        }
+    }
+}
+
+// Writes a header into the first bytes of an output, so many or all there are.
+fn write_within(h: header::Header, output: &mut [u8], room: u64) -> header::HeaderWritten {
+    if (output.len() as u64) < room {
+        return header::write_header(h, output);
+    }
+    let lent = room as usize;
+    header::write_header(h, &mut output[..lent])
+}
+
+fn wide(byte: u8) -> u64 {
+    byte as u64
+}
+
+// Whether an output that was full of ones holds just these bytes, so many of them, and ones after them.
+fn wrote(output: &[u8; OUTPUT_ROOM], bytes: &[u64], count: usize) -> bool {
+    let mut right = bytes.len() == count;
+    let mut at = 0;
+    while at < OUTPUT_ROOM {
+        let byte = if at < count {
+            words::value_at(bytes, at)
+        } else {
+            255
+        };
+        right = right & (wide(output[at]) == byte);
+        at += 1;
+    }
+    right
 }

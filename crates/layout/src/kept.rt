@@ -7,7 +7,6 @@ use crate::sizes::place;
 use crate::table::a_at;
 use crate::table::b_at;
 use crate::table::kind_at;
-use crate::table::number_at;
 use crate::table::row_of;
 use rules::Layout;
 ghost use mathlib.Core.Path.{_≡_};
@@ -29,8 +28,8 @@ fn kept_at(sizes: &[u32; 256], alignments: &[u32; 256], row: u32) -> Layout
 {
     let at = row as usize;
     Layout {
-        size: number_at(sizes, at) as usize,
-        alignment: number_at(alignments, at) as usize,
+        size: words::number_at(sizes, at) as usize,
+        alignment: words::number_at(alignments, at) as usize,
     }
 }
 

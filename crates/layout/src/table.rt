@@ -5,49 +5,42 @@ ghost use lib.ListN.{getD};
 ghost use Rattle.rules.specs.TypeTable.{typeTable};
 ghost use Rattle.rules.specs.Sound.{listsWhole};
 
-// The number at an index of a list; past its end stands 0.
-pub(crate) fn number_at(list: &[u32], at: usize) -> u32
-    ensures { λ r. ⌜ r ≡ getD (now (list .entry)) at 0 ⌝ }
-{
-    if at < list.len() { list[at] } else { 0 }
-}
-
 // The four numbers of a row: its kind, a, b and c.
 pub(crate) fn kind_at(rows: &[u32], row: u32) -> u32
     ensures { λ r. ⌜ r ≡ getD (now (rows .entry)) (row * 4) 0 ⌝ }
 {
-    number_at(rows, (row as usize) * 4)
+    words::number_at(rows, (row as usize) * 4)
 }
 
 pub(crate) fn a_at(rows: &[u32], row: u32) -> u32
     ensures { λ r. ⌜ r ≡ getD (now (rows .entry)) (row * 4 + 1) 0 ⌝ }
 {
-    number_at(rows, (row as usize) * 4 + 1)
+    words::number_at(rows, (row as usize) * 4 + 1)
 }
 
 pub(crate) fn b_at(rows: &[u32], row: u32) -> u32
     ensures { λ r. ⌜ r ≡ getD (now (rows .entry)) (row * 4 + 2) 0 ⌝ }
 {
-    number_at(rows, (row as usize) * 4 + 2)
+    words::number_at(rows, (row as usize) * 4 + 2)
 }
 
 pub(crate) fn c_at(rows: &[u32], row: u32) -> u32
     ensures { λ r. ⌜ r ≡ getD (now (rows .entry)) (row * 4 + 3) 0 ⌝ }
 {
-    number_at(rows, (row as usize) * 4 + 3)
+    words::number_at(rows, (row as usize) * 4 + 3)
 }
 
 // The two numbers of a member: its ordinal and its row.
 pub(crate) fn ordinal_at(members: &[u32], member: u32) -> u32
     ensures { λ r. ⌜ r ≡ getD (now (members .entry)) (member * 2) 0 ⌝ }
 {
-    number_at(members, (member as usize) * 2)
+    words::number_at(members, (member as usize) * 2)
 }
 
 pub(crate) fn row_of(members: &[u32], member: u32) -> u32
     ensures { λ r. ⌜ r ≡ getD (now (members .entry)) (member * 2 + 1) 0 ⌝ }
 {
-    number_at(members, (member as usize) * 2 + 1)
+    words::number_at(members, (member as usize) * 2 + 1)
 }
 
 // "Lists whole": 1 to 256 rows of four numbers, 0 to 1,024 members of two.

@@ -2,7 +2,7 @@
 // the line too. In a case a list stands as its length and then its numbers.
 ghost use mathlib.Core.Path.{_≡_};
 ghost use Prim.Native.Nat.{_+_, _≤_};
-ghost use lib.ListN.{take, drop, getD, set};
+ghost use lib.ListN.{take, drop, getD};
 ghost use Rattle.stream.specs.Numbers.{isDigit, withDigit, LineRead, Narrows, sameNumbers};
 
 // How many numbers stand in a line, and where the next line starts.
@@ -26,7 +26,7 @@ pub fn read_line(text: &[u8], from: usize, numbers: &mut [u64]) -> Line
             value = with_digit(value, byte);
             continue;
         }
-        put(numbers, count, value);
+        words::put_value(numbers, count, value);
         count += 1;
         value = 0;
         if byte == 10 {
@@ -52,22 +52,6 @@ fn with_digit(value: u64, byte: u8) -> u64
     } else {
         u64::MAX
     }
-}
-
-// Stores a number where there is room for it.
-fn put(numbers: &mut [u64], at: usize, value: u64)
-    ensures { λ _. ⌜ now (numbers .exit) ≡ set (now (numbers .entry)) at value ⌝ }
-{
-    if at < numbers.len() {
-        numbers[at] = value;
-    }
-}
-
-// A number of a case; past its end stands 0.
-pub fn number(case: &[u64], at: usize) -> u64
-    ensures { λ r. ⌜ r ≡ getD (now (case .entry)) at 0 ⌝ }
-{
-    if at < case.len() { case[at] } else { 0 }
 }
 
 // The numbers from a place on,
@@ -99,7 +83,7 @@ pub fn list(case: &[u64], at: usize) -> &[u64]
     if case.len() <= at {
         return &case[..0];
     }
-    first(rest(case, at + 1), number(case, at) as usize)
+    first(rest(case, at + 1), words::value_at(case, at) as usize)
 }
 
 // Puts numbers into a lent list of bytes, those that it has room for, and says how many;

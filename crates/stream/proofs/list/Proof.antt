@@ -24,14 +24,14 @@ add-rest c = search needs
 rest-requires : tie.Need-rest-requires
 rest-requires c κs = search needs
 
-number-requires : tie.Need-number-requires
-number-requires c κs = search needs
+value-at-requires : tie.Need-value-at-requires
+value-at-requires c κs = search needs
 
 first-requires : tie.Need-first-requires
 first-requires c κs = search needs
 
 returns-2 : tie.Need-returns-2
-returns-2 c = rw (c .before .number .ensures, c .before .before .rest .ensures) at (c .first .ensures)
+returns-2 c = rw (c .before .value-at .ensures, c .before .before .rest .ensures) at (c .first .ensures)
 
 pub list-spec : {M : Type 1} → statement M
 list-spec =
@@ -41,6 +41,6 @@ list-spec =
     returns
     add-rest
     rest-requires
-    number-requires
+    value-at-requires
     first-requires
     returns-2)

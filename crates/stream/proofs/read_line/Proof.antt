@@ -39,8 +39,8 @@ loop-again c =
     let tested = c .before .before in
     digit-read (omega arith) (tested .before .before .before .loop .inv) (sym (tested .is-digit .ensures) ∙ c .before .if1 .taken) (c .with-digit .ensures)
 
-put-requires : tie.Need-put-requires Inv-loop μ-loop
-put-requires c κs = search needs
+put-value-requires : tie.Need-put-value-requires Inv-loop μ-loop
+put-value-requires c κs = search needs
 
 add-count : tie.Need-add-count Inv-loop μ-loop
 add-count c = omega arith
@@ -51,7 +51,7 @@ same-length c = omega arith
 returns : tie.Need-returns Inv-loop μ-loop
 returns c =
     let tested = c .before .before .before .before .before .before in
-    line-read (omega arith) (tested .before .before .before .loop .inv) (sym (tested .is-digit .ensures) ∙ c .before .before .before .before .before .if1 .left) (c .before .before .before .put .ensures)
+    line-read (omega arith) (tested .before .before .before .loop .inv) (sym (tested .is-digit .ensures) ∙ c .before .before .before .before .before .if1 .left) (c .before .before .before .put-value .ensures)
     (c .if2 .taken)
 
 loop-less-2 : tie.Need-loop-less-2 Inv-loop μ-loop
@@ -60,7 +60,7 @@ loop-less-2 c = omega arith
 loop-again-2 : tie.Need-loop-again-2 Inv-loop μ-loop
 loop-again-2 c =
     let tested = c .before .before .before .before .before .before in
-    number-read (omega arith) (tested .before .before .before .loop .inv) (sym (tested .is-digit .ensures) ∙ c .before .before .before .before .before .if1 .left) (c .before .before .before .put .ensures)
+    number-read (omega arith) (tested .before .before .before .loop .inv) (sym (tested .is-digit .ensures) ∙ c .before .before .before .before .before .if1 .left) (c .before .before .before .put-value .ensures)
     (c .if2 .left)
 
 same-length-2 : tie.Need-same-length-2 Inv-loop μ-loop
@@ -82,7 +82,7 @@ read-line-spec =
     with-digit-requires
     loop-less
     loop-again
-    put-requires
+    put-value-requires
     add-count
     same-length
     returns
