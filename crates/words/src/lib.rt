@@ -47,7 +47,7 @@ pub fn put_value(values: &mut [u64], at: usize, value: u64)
 // ---- loads
 
 // Whether `count` elements from a place on lie within a list of that length.
-pub fn within(total: usize, at: usize, count: usize) -> bool
+fn within(total: usize, at: usize, count: usize) -> bool
     ensures { λ r. ⌜ r ≡ leb (at + count) total ⌝ }
 {
     if at <= total {
