@@ -2,6 +2,7 @@
 -- Assumes nothing.
 use mathlib.Core.Bool.{true, false}
 use mathlib.Core.Path.{sym, _∙_}
+use native.Mathlib.Omega.{arith}
 use borrow.Author.Needs.{needs}
 use borrow.Author.Tests.{not-true, not-false, le-leb, lt-leb}
 use Rattle.rules.specs.TypeTable.{typeTable}
@@ -25,12 +26,12 @@ kept-layout-requires c κs = let s = c .before .before .before .before in (s .pr
 laid : tie.Need-returns-2
 laid c =
     let l = c .before .before .kept-layout in
-    judged-by-size _ _ (l .result) true (fits (c .before .before .before)) (l .ensures) (le-leb (l .result .size) 65528 (c .if2 .taken))
+    judged-by-size _ _ (l .result) true (fits (c .before .before .before)) (l .ensures) (le-leb (l .result .size) 65528 (omega (arith, c .if2 .taken)))
 
 too-large : tie.Need-returns-3
 too-large c =
     let l = c .before .before .kept-layout in
-    judged-by-size _ _ (l .result) false (fits (c .before .before .before)) (l .ensures) (lt-leb (l .result .size) 65528 (c .if2 .left))
+    judged-by-size _ _ (l .result) false (fits (c .before .before .before)) (l .ensures) (lt-leb (l .result .size) 65528 (omega (arith, c .if2 .left)))
 
 pub judge-spec : {M : Type 1} → statement M
 judge-spec = tie.close (tie.spec (λ c κs. search needs) no-line kept-layout-requires laid too-large)
