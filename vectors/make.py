@@ -14,10 +14,10 @@ import sys
 
 HERE = pathlib.Path(__file__).resolve().parent
 PROGRAM = HERE.parent / "crates" / "cases"
-FILES = ("text.txt", "base.txt", "conformance.txt", "circle.txt")
+FILES = ("text.txt", "base.txt", "conformance.txt", "document.txt", "circle.txt")
 
 # The operations that the program runs, in the order of their numbers, from 1 on.
-RUN = ("is_utf8", "sound", "layout", "header_read", "header_write")
+RUN = ("is_utf8", "sound", "layout", "header_read", "header_write", "check", "read")
 
 # The fields of each operation in the vector files: its inputs, and its answer.
 FIELDS = {

@@ -2,14 +2,16 @@
 // failed. A case is a line: its operation's number, the inputs, and the answer that it must give. vectors/make.py makes
 // the stream from the vector files, and finds the vector that a line was made from.
 ghost use mathlib.Core.Path.{_≡_};
+ghost use Prim.Native.Nat.{_≤_, _<_};
 ghost use lib.ListN.{length};
+ghost use Rattle.io.specs.Counts.{Counts};
 
 // Room for the stream, for the numbers of one case, and for the bytes of a message.
-const TEXT_ROOM: usize = 1048576;
+const TEXT_ROOM: usize = 524288;
 
-const CASE_ROOM: usize = 262144;
+const CASE_ROOM: usize = 16384;
 
-const MESSAGE_ROOM: usize = 131072;
+const MESSAGE_ROOM: usize = 4096;
 
 // More than a type table's list may hold, so that lists that are too long can be handed on as they are.
 const LIST_ROOM: usize = 4096;
@@ -17,8 +19,11 @@ const LIST_ROOM: usize = 4096;
 // More than a header's 16 bytes.
 const OUTPUT_ROOM: usize = 64;
 
+// More than the value list or the object list of any case.
+const NUMBERS_ROOM: usize = 256;
+
 // Operations are numbered from 1 on; as 0 counts a case that names none of them.
-const OPERATIONS: usize = 6;
+const OPERATIONS: usize = 8;
 
 const FAILURES_SHOWN: usize = 8;
 
@@ -99,19 +104,19 @@ fn write_counts(operation: usize, passed: u64, failed: u64) {
 // ---- room: the contracts give the lengths alone, so that no proof goes into a long list
 
 fn text_room() -> [u8; TEXT_ROOM]
-    ensures { λ r. ⌜ 1048576 ≡ length r ⌝ }
+    ensures { λ r. ⌜ 524288 ≡ length r ⌝ }
 {
     [0; TEXT_ROOM]
 }
 
 fn case_room() -> [u64; CASE_ROOM]
-    ensures { λ r. ⌜ 262144 ≡ length r ⌝ }
+    ensures { λ r. ⌜ 16384 ≡ length r ⌝ }
 {
     [0; CASE_ROOM]
 }
 
 fn message_room() -> [u8; MESSAGE_ROOM]
-    ensures { λ r. ⌜ 131072 ≡ length r ⌝ }
+    ensures { λ r. ⌜ 4096 ≡ length r ⌝ }
 {
     [0; MESSAGE_ROOM]
 }
@@ -125,6 +130,8 @@ fn write_name(operation: usize) -> bool {
         3 => io::write_all(1, b"layout"),
         4 => io::write_all(1, b"header_read"),
         5 => io::write_all(1, b"header_write"),
+        6 => io::write_all(1, b"check"),
+        7 => io::write_all(1, b"read"),
         _ => io::write_all(1, b"no operation"),
     }
 }
@@ -136,6 +143,8 @@ fn passes(operation: usize, case: &[u64]) -> bool {
         3 => layout_of(case),
         4 => header_read(case),
         5 => header_write(case),
+        6 => check(case),
+        7 => read(case),
         _ => false,
     }
 }
@@ -163,17 +172,33 @@ fn place_number(f: rules::Fault) -> u64 {
     }
 }
 
-// The row list and the member list; number and place.
-fn sound(case: &[u64]) -> bool {
+// How many numbers of a case's row list and member list were put into the rooms, and where the case's other inputs start.
+struct Table {
+    rows: usize,
+    members: usize,
+    next: usize,
+}
+
+fn put_table(case: &[u64], rows: &mut [u32], members: &mut [u32]) -> Table
+    ensures { λ r. ⌜ Counts (r .rows) (now (rows .exit)) × Counts (r .members) (now (members .exit)) × (r .next < 4611686018427387904) ⌝ }
+{
     let row_list = stream::list(case, 1);
     let at_members = 2 + row_list.len();
     let member_list = stream::list(case, at_members);
+    Table {
+        rows: stream::to_words(row_list, rows),
+        members: stream::to_words(member_list, members),
+        next: at_members + 1 + member_list.len(),
+    }
+}
+
+// The row list and the member list; number and place.
+fn sound(case: &[u64]) -> bool {
     let mut rows = [0u32; LIST_ROOM];
     let mut members = [0u32; LIST_ROOM];
-    let row_numbers = stream::to_words(row_list, &mut rows);
-    let member_numbers = stream::to_words(member_list, &mut members);
-    let prepared = layout::prepare(&rows[..row_numbers], &members[..member_numbers]);
-    let answer = stream::rest(case, at_members + 1 + member_list.len());
+    let t = put_table(case, &mut rows, &mut members);
+    let prepared = layout::prepare(&rows[..t.rows], &members[..t.members]);
+    let answer = stream::rest(case, t.next);
     let verdict = prepared.verdict;
     match verdict {
         layout::Soundness::Sound => stream::same(answer, &[0, 0]),
@@ -183,17 +208,12 @@ fn sound(case: &[u64]) -> bool {
 
 // The row list, the member list and the row; number, place, size and alignment.
 fn layout_of(case: &[u64]) -> bool {
-    let row_list = stream::list(case, 1);
-    let at_members = 2 + row_list.len();
-    let member_list = stream::list(case, at_members);
-    let at_row = at_members + 1 + member_list.len();
     let mut rows = [0u32; LIST_ROOM];
     let mut members = [0u32; LIST_ROOM];
-    let row_numbers = stream::to_words(row_list, &mut rows);
-    let member_numbers = stream::to_words(member_list, &mut members);
-    let row = (words::value_at(case, at_row) % 4294967296) as u32;
-    let answer = stream::rest(case, at_row + 1);
-    match layout::layout_of(&rows[..row_numbers], &members[..member_numbers], row) {
+    let t = put_table(case, &mut rows, &mut members);
+    let row = (words::value_at(case, t.next) % 4294967296) as u32;
+    let answer = stream::rest(case, t.next + 1);
+    match layout::layout_of(&rows[..t.rows], &members[..t.members], row) {
         layout::LayoutAnswer::Laid(l) => stream::same(
             answer,
             &[0, 0, l.size as u64, l.alignment as u64],
@@ -203,6 +223,184 @@ fn layout_of(case: &[u64]) -> bool {
             &[f.number as u64, place_number(f), 0, 0],
         ),
     }
+}
+
+// The row list, the member list, the root, the message and the handle count; number and place.
+fn check(case: &[u64]) -> bool {
+    let mut rows = [0u32; LIST_ROOM];
+    let mut members = [0u32; LIST_ROOM];
+    let t = put_table(case, &mut rows, &mut members);
+    let root = (words::value_at(case, t.next) % 4294967296) as u32;
+    let numbers = stream::list(case, t.next + 1);
+    let mut message = message_room();
+    let count = stream::to_bytes(numbers, &mut message);
+    let next = t.next + 2 + numbers.len();
+    let handles = words::value_at(case, next);
+    let answer = stream::rest(case, next + 1);
+    match reader::check(
+        &rows[..t.rows],
+        &members[..t.members],
+        root,
+        &message[..count],
+        handles,
+    ) {
+        reader::Verdict::Accepted => stream::same(answer, &[0, 0]),
+        reader::Verdict::Refused(f) => stream::same(answer, &[f.number as u64, place_number(f)]),
+    }
+}
+
+// The same, then the rooms of the value list and of the object list; number, place, and both lists.
+fn read(case: &[u64]) -> bool {
+    let mut rows = [0u32; LIST_ROOM];
+    let mut members = [0u32; LIST_ROOM];
+    let t = put_table(case, &mut rows, &mut members);
+    let root = (words::value_at(case, t.next) % 4294967296) as u32;
+    let numbers = stream::list(case, t.next + 1);
+    let mut message = message_room();
+    let count = stream::to_bytes(numbers, &mut message);
+    let next = t.next + 2 + numbers.len();
+    let handles = words::value_at(case, next);
+    let rest = stream::rest(case, next + 1);
+    read_both(
+        &rows[..t.rows],
+        &members[..t.members],
+        root,
+        &message[..count],
+        handles,
+        rest,
+    )
+        & read_each(
+            &rows[..t.rows],
+            &members[..t.members],
+            root,
+            &message[..count],
+            handles,
+            rest,
+        )
+}
+
+// Both lists at once. They are lent full of ones: past what was given, and on a refusal everywhere, those must still be
+// there.
+fn read_both(
+    rows: &[u32],
+    members: &[u32],
+    root: u32,
+    message: &[u8],
+    handles: u64,
+    rest: &[u64],
+) -> bool {
+    let mut values = [u64::MAX; NUMBERS_ROOM];
+    let mut objects = [u32::MAX; NUMBERS_ROOM];
+    let values_room = room_of(words::value_at(rest, 0));
+    let objects_room = room_of(words::value_at(rest, 1));
+    let answer = stream::first(stream::rest(rest, 2), 2);
+    let given_values = stream::list(rest, 4);
+    let given_objects = stream::list(rest, 5 + given_values.len());
+    let right = match reader::read(
+        rows,
+        members,
+        root,
+        message,
+        handles,
+        &mut values[..values_room],
+        &mut objects[..objects_room],
+    ) {
+        reader::Reading::Accepted(n) => stream::same(answer, &[0, 0])
+            & (n.values == given_values.len())
+            & (n.objects == given_objects.len()),
+        reader::Reading::Refused(f) => stream::same(answer, &[f.number as u64, place_number(f)]),
+    };
+    right & values_are(&values, given_values) & objects_are(&objects, given_objects)
+}
+
+// Each list by itself, in the same way. A case of 22 does not tell how one list alone would do.
+fn read_each(
+    rows: &[u32],
+    members: &[u32],
+    root: u32,
+    message: &[u8],
+    handles: u64,
+    rest: &[u64],
+) -> bool {
+    let mut values = [u64::MAX; NUMBERS_ROOM];
+    let mut objects = [u32::MAX; NUMBERS_ROOM];
+    let values_room = room_of(words::value_at(rest, 0));
+    let objects_room = room_of(words::value_at(rest, 1));
+    let answer = stream::first(stream::rest(rest, 2), 2);
+    if words::value_at(answer, 0) == 22 {
+        return true;
+    }
+    let given_values = stream::list(rest, 4);
+    let given_objects = stream::list(rest, 5 + given_values.len());
+    let of_values = reader::read_values(
+        rows,
+        members,
+        root,
+        message,
+        handles,
+        &mut values[..values_room],
+    );
+    let of_objects = reader::read_objects(
+        rows,
+        members,
+        root,
+        message,
+        handles,
+        &mut objects[..objects_room],
+    );
+    gives(of_values, answer, given_values.len())
+        & gives(of_objects, answer, given_objects.len())
+        & values_are(&values, given_values)
+        & objects_are(&objects, given_objects)
+}
+
+fn gives(given: reader::Given, answer: &[u64], count: usize) -> bool {
+    match given {
+        reader::Given::Accepted(n) => stream::same(answer, &[0, 0]) & (n == count),
+        reader::Given::Refused(f) => stream::same(answer, &[f.number as u64, place_number(f)]),
+    }
+}
+
+// A room as a case names it, and not more than there is.
+fn room_of(room: u64) -> usize
+    ensures { λ r. ⌜ r ≤ 256 ⌝ }
+{
+    if room < 256 { room as usize } else { 256 }
+}
+
+// Whether a list that was full of ones holds just these numbers, and ones after them.
+fn values_are(values: &[u64; NUMBERS_ROOM], given: &[u64]) -> bool {
+    let mut right = given.len() <= NUMBERS_ROOM;
+    let mut at = 0;
+    while at < NUMBERS_ROOM {
+        let number = if at < given.len() {
+            given[at]
+        } else {
+            u64::MAX
+        };
+        right = right & (values[at] == number);
+        at += 1;
+    }
+    right
+}
+
+fn widened(number: u32) -> u64 {
+    number as u64
+}
+
+fn objects_are(objects: &[u32; NUMBERS_ROOM], given: &[u64]) -> bool {
+    let mut wide = [0u64; NUMBERS_ROOM];
+    let mut at = 0;
+    while at < NUMBERS_ROOM {
+        let number = objects[at];
+        wide[at] = if number == u32::MAX {
+            u64::MAX
+        } else {
+            widened(number)
+        };
+        at += 1;
+    }
+    values_are(&wide, given)
 }
 
 // The message; number, place, transaction number, three flags, ordinal, and where the body starts and ends.

@@ -12,7 +12,7 @@ use Rattle.cases.proofs.run.Tie as tie
 
 abbrev Inv-loop : tie.InvT-loop
 Inv-loop text numbers₀ passed₀ failed₀ failures₀ line₀ at₀ numbers passed failed failures line at =
-    (262144 ≡ length numbers) × (failures ≤ line) × (line ≤ at) × (at ≤ length text)
+    (16384 ≡ length numbers) × (failures ≤ line) × (line ≤ at) × (at ≤ length text)
 
 abbrev μ-loop : tie.MeasureT-loop
 μ-loop text numbers₀ passed₀ failed₀ failures₀ line₀ at₀ numbers passed failed failures line at = length text - at

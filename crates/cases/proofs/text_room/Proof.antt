@@ -7,7 +7,7 @@ use Rattle.cases.proofs.text_room.Statement.{statement}
 use Rattle.cases.proofs.text_room.Tie as tie
 
 returns : tie.Need-returns
-returns c = sym (length-replicate {A = ℕ} 1048576 0)
+returns c = sym (length-replicate {A = ℕ} 524288 0)
 
 pub text-room-spec : {M : Type 1} → statement M
 text-room-spec = tie.close (tie.spec returns)

@@ -1,0 +1,199 @@
+-- What the public functions answer, and what they leave in the lists lent: after every test of the checker, 22.
+-- Assumes nothing.
+use mathlib.Core.Path.{_≡_, refl, ap, _∙_}
+use mathlib.Core.List.{List, _++_}
+use Prim.Native.Nat.{ℕ, _≤_, _<_}
+use native.Mathlib.Nat.{zero-add}
+use native.Mathlib.Omega.{arith}
+use borrow.Author.Tests.{le-leb, lt-leb}
+use lib.ListN.{length, drop}
+use lib.Seq.{sets, sets-eq}
+use Rattle.rules.specs.declared.Fault.{Fault}
+use Rattle.rules.specs.declared.Place.the-variants.{Amount}
+use Rattle.rules.specs.Refusals.{fault, roomTooSmall, Answer, accepted, refused, lentAfter}
+use Rattle.rules.specs.Trace.{objectList}
+use Rattle.rules.specs.Decode.{Message}
+use Rattle.rules.specs.Answers as A
+use Rattle.rules.specs.Answers.{Lists, judged, requireRoom}
+use Rattle.reader.specs.declared.Lengths.{Lengths}
+use Rattle.reader.specs.declared.Reading.{Reading}
+use Rattle.reader.specs.declared.Reading.the-variants.{Accepted, Refused}
+use Rattle.reader.specs.Doing.{message}
+use Rattle.reader.specs.Answers.{readingOf, lengthOf, lengthsOf, valuesIn, objectsIn}
+use Rattle.reader.specs.Passing.{Passed, judgedLengths}
+use Rattle.reader.proofs.Judging.{Held, as-refused, as-held, held-lists}
+
+-- ---- a list that is lent
+
+room-short : {A : Type 0} (room : ℕ) {needed count : ℕ} (x : Answer A) → needed ≡ count → room < needed
+    → requireRoom count room x ≡ refused (fault roomTooSmall (Amount needed))
+room-short room {needed} x e h = rw (← e, lt-leb needed room h)
+
+room-enough : {A : Type 0} (room : ℕ) {needed count : ℕ} (x : Answer A) → needed ≡ count → needed ≤ room → requireRoom count room x ≡ x
+room-enough room {needed} x e h = rw (← e, le-leb needed room h)
+
+-- A list stored from the start on, where there is room for it.
+stored-list : (list lent : List ℕ) → length list ≤ length lent → sets lent 0 list ≡ list ++ drop (length list) lent
+stored-list list lent h = rw zero-add at (sets-eq list lent 0 (omega arith))
+
+-- One list: what is answered of it, and what it holds after.
+abbrev pub Gives : (given : Answer (List ℕ)) (lent : List ℕ) (answer : Answer ℕ) (after : List ℕ) → Type 0
+Gives given lent answer after = (answer ≡ lengthOf given) × (after ≡ lentAfter given lent)
+
+gives-nothing : {given : Answer (List ℕ)} {f g : Fault} (lent : List ℕ) → given ≡ refused f → g ≡ f → Gives given lent (refused g) lent
+gives-nothing lent e q = (rw (e, q), rw e)
+
+gives-list : {given : Answer (List ℕ)} {list : List ℕ} (lent : List ℕ) {after : List ℕ} {count : ℕ} → given ≡ accepted list → count ≡ length list → count ≤ length lent
+    → after ≡ sets lent 0 list → Gives given lent (accepted count) after
+gives-list {list = list} lent e n room s = (rw (e, n), rw e (s ∙ stored-list list lent (omega arith)))
+
+-- Both lists.
+abbrev pub GivesBoth : (given : Answer Lists) (values objects : List ℕ) (answer : Answer Lengths) (values′ objects′ : List ℕ) → Type 0
+GivesBoth given values objects answer values′ objects′ =
+    (answer ≡ lengthsOf given) × ((values′ ≡ lentAfter (valuesIn given) values) × (objects′ ≡ lentAfter (objectsIn given) objects))
+
+gives-neither : {given : Answer Lists} {f g : Fault} (values objects : List ℕ) → given ≡ refused f → g ≡ f
+    → GivesBoth given values objects (refused g) values objects
+gives-neither values objects e q = (rw (e, q), (rw e, rw e))
+
+-- ---- what is answered of a message
+
+module _ (rows members bytes : List ℕ) (root handles : ℕ) where
+  abbrev here : Message
+  here = message rows members bytes handles
+
+  -- what the rules give of one that is refused,
+  module _ {f : Fault} (e : judged here root ≡ refused f) where
+    no-values : (room : ℕ) → A.readValues here root room ≡ refused f
+    unfolding A.readValues
+    no-values room = rw e
+
+    no-objects : (room : ℕ) → A.readObjects here root room ≡ refused f
+    unfolding A.readObjects
+    no-objects room = rw e
+
+    no-lists : (values-room objects-room : ℕ) → A.read here root values-room objects-room ≡ refused f
+    unfolding A.read
+    no-lists values-room objects-room = rw (no-objects objects-room)
+
+  -- and of one that is accepted, with what the second pass stored
+  module _ {lengths : Lengths} (h : Held here root lengths) where
+    abbrev values-held : List ℕ
+    values-held = h .reading .values
+
+    abbrev objects-held : List ℕ
+    objects-held = objectList (h .reading .trace)
+
+    values-of : (room : ℕ) → A.readValues here root room ≡ requireRoom (length values-held) room (accepted values-held)
+    unfolding A.readValues
+    values-of room = rw (h .held)
+
+    objects-of : (room : ℕ) → A.readObjects here root room ≡ requireRoom (length objects-held) room (accepted objects-held)
+    unfolding A.readObjects
+    objects-of room = rw (h .held)
+
+    -- 22 of the objects first, then of the values
+    objects-first : (values-room objects-room : ℕ) → objects-room < lengths .objects
+        → A.read here root values-room objects-room ≡ refused (fault roomTooSmall (Amount (lengths .objects)))
+    unfolding A.read
+    objects-first values-room objects-room short = rw (objects-of objects-room, room-short objects-room (accepted objects-held) (h .objects) short)
+
+    values-next : (values-room objects-room : ℕ) → lengths .objects ≤ objects-room → values-room < lengths .values
+        → A.read here root values-room objects-room ≡ refused (fault roomTooSmall (Amount (lengths .values)))
+    unfolding A.read
+    values-next values-room objects-room room short =
+        rw (
+          objects-of objects-room,
+          room-enough objects-room (accepted objects-held) (h .objects) room,
+          values-of values-room,
+          room-short values-room (accepted values-held) (h .values) short,
+        )
+
+    both-of : (values-room objects-room : ℕ) → lengths .objects ≤ objects-room → lengths .values ≤ values-room
+        → A.read here root values-room objects-room ≡ accepted (record { values = values-held; objects = objects-held })
+    unfolding A.read
+    both-of values-room objects-room objects-fit values-fit =
+        rw (
+          objects-of objects-room,
+          room-enough objects-room (accepted objects-held) (h .objects) objects-fit,
+          values-of values-room,
+          room-enough values-room (accepted values-held) (h .values) values-fit,
+        )
+
+    lengths-held : accepted lengths ≡ accepted (record { values = length values-held; objects = length objects-held })
+    lengths-held = rw (← h .values, ← h .objects)
+
+    module _ {values values′ objects objects′ : List ℕ} {r : Reading} (p : Passed rows members bytes root handles values values′ objects objects′ r) where
+      values-stored : values′ ≡ sets values 0 values-held
+      values-stored = p .valued ∙ ap (sets values 0) (held-lists h .0)
+
+      objects-stored : objects′ ≡ sets objects 0 objects-held
+      objects-stored = p .listed ∙ rw (held-lists h .1)
+
+  module _ {a : Reading} (j : readingOf a ≡ judgedLengths here root) where
+    pub check-refused : {f : Fault} → a ≡ Refused f → refused f ≡ A.check here root
+    unfolding A.check
+    check-refused e = rw (as-refused here root a j e)
+
+    pub check-accepted : {lengths : Lengths} → a ≡ Accepted lengths → accepted tt ≡ A.check here root
+    unfolding A.check
+    check-accepted e = rw (as-held here root a j e .held)
+
+    pub values-refused : {f : Fault} (lent : List ℕ) → a ≡ Refused f → Gives (A.readValues here root (length lent)) lent (refused f) lent
+    values-refused lent e = gives-nothing lent (no-values (as-refused here root a j e) (length lent)) refl
+
+    pub objects-refused : {f : Fault} (lent : List ℕ) → a ≡ Refused f → Gives (A.readObjects here root (length lent)) lent (refused f) lent
+    objects-refused lent e = gives-nothing lent (no-objects (as-refused here root a j e) (length lent)) refl
+
+    pub both-refused : {f : Fault} (values objects : List ℕ) → a ≡ Refused f
+        → GivesBoth (A.read here root (length values) (length objects)) values objects (refused f) values objects
+    both-refused values objects e = gives-neither values objects (no-lists (as-refused here root a j e) (length values) (length objects)) refl
+
+    module _ {lengths : Lengths} (e : a ≡ Accepted lengths) where
+      -- 22
+      pub values-room : {f : Fault} (lent : List ℕ) → length lent < lengths .values → f ≡ fault roomTooSmall (Amount (lengths .values))
+          → Gives (A.readValues here root (length lent)) lent (refused f) lent
+      values-room lent short q =
+          let h = as-held here root a j e in
+          gives-nothing lent (values-of h (length lent) ∙ room-short (length lent) _ (h .values) short) q
+
+      pub objects-room : {f : Fault} (lent : List ℕ) → length lent < lengths .objects → f ≡ fault roomTooSmall (Amount (lengths .objects))
+          → Gives (A.readObjects here root (length lent)) lent (refused f) lent
+      objects-room lent short q =
+          let h = as-held here root a j e in
+          gives-nothing lent (objects-of h (length lent) ∙ room-short (length lent) _ (h .objects) short) q
+
+      pub both-objects-room : {f : Fault} (values objects : List ℕ) → length objects < lengths .objects → f ≡ fault roomTooSmall (Amount (lengths .objects))
+          → GivesBoth (A.read here root (length values) (length objects)) values objects (refused f) values objects
+      both-objects-room values objects short q =
+          gives-neither values objects (objects-first (as-held here root a j e) (length values) (length objects) short) q
+
+      pub both-values-room : {f : Fault} (values objects : List ℕ) → lengths .objects ≤ length objects → length values < lengths .values
+          → f ≡ fault roomTooSmall (Amount (lengths .values))
+          → GivesBoth (A.read here root (length values) (length objects)) values objects (refused f) values objects
+      both-values-room values objects room short q =
+          gives-neither values objects (values-next (as-held here root a j e) (length values) (length objects) room short) q
+
+      -- what is given
+      module _ {values values′ objects objects′ : List ℕ} {r : Reading} (p : Passed rows members bytes root handles values values′ objects objects′ r) where
+        pub values-read : lengths .values ≤ length values → Gives (A.readValues here root (length values)) values (accepted (lengths .values)) values′
+        values-read room =
+            let h = as-held here root a j e in
+            gives-list values (values-of h (length values) ∙ room-enough (length values) _ (h .values) room) (h .values) room (values-stored h p)
+
+        pub objects-read : lengths .objects ≤ length objects → Gives (A.readObjects here root (length objects)) objects (accepted (lengths .objects)) objects′
+        objects-read room =
+            let h = as-held here root a j e in
+            gives-list objects (objects-of h (length objects) ∙ room-enough (length objects) _ (h .objects) room) (h .objects) room (objects-stored h p)
+
+        pub both-read : lengths .objects ≤ length objects → lengths .values ≤ length values
+            → GivesBoth (A.read here root (length values) (length objects)) values objects (accepted lengths) values′ objects′
+        both-read objects-fit values-fit =
+            let h = as-held here root a j e in
+            let given = both-of h (length values) (length objects) objects-fit values-fit in (
+              rw given (lengths-held h),
+              (
+                rw given (values-stored h p ∙ stored-list (values-held h) values (omega (arith, h .values))),
+                rw given (objects-stored h p ∙ stored-list (objects-held h) objects (omega (arith, h .objects))),
+              ),
+            )

@@ -1,0 +1,14 @@
+-- `reader::scalars::number` meets its contract.
+-- Assumes nothing.
+use borrow.Author.Needs.{needs}
+use Rattle.reader.proofs.InLine.{number-given}
+use Rattle.reader.proofs.scalars.number.Statement.{statement}
+use Rattle.reader.proofs.scalars.number.Tie as tie
+
+returns : tie.Need-returns
+returns c = search (needs, number-given)
+
+pub number-spec : {M : Type 1} → statement M
+number-spec = tie.close
+    (tie.spec
+    (λ c κs. search needs) (λ c κs. search needs) (λ c. search needs) returns)

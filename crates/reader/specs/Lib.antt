@@ -1,0 +1,7 @@
+pub mod Doing
+pub mod Parts
+pub mod Opening
+pub mod Contracts
+pub mod Walking
+pub mod Answers
+pub mod Passing

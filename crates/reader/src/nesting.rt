@@ -1,0 +1,121 @@
+// Structs and arrays nested in line: what comes next in one of them, and where it starts.
+ghost use mathlib.Core.Path.{_≡_};
+ghost use Prim.Native.Nat.{_≤_, _<_};
+ghost use Rattle.reader.specs.Walking.{nextOffset, hasParts, nextPart, nextStep, nextPlace};
+
+// Where the member after one starts, or where the struct ends, counted from the struct's start.
+fn next_offset(
+    members: &[u32],
+    alignments: &[u32; 256],
+    row: usize,
+    member: usize,
+    end: usize,
+    offset: u32,
+) -> usize
+    requires { ⌜ member < 281474976710656 ⌝ }
+    ensures { λ r. ⌜ (r ≡ nextOffset (now (members .entry)) (now (alignments .entry)) row member end offset) × (r < 8589934592) ⌝ }
+{
+    if member + 1 == end {
+        return words::round_up(offset, words::number_at(alignments, row)) as usize;
+    }
+    let next = words::number_at(members, member * 2 + 3) as usize;
+    words::round_up(offset, words::number_at(alignments, next)) as usize
+}
+
+// Whether a row's value is made of values that are walked one by one: a struct that has members, or an array of anything
+// but numbers.
+pub fn has_parts(rows: &[u32], row: usize) -> bool
+    requires { ⌜ row < 4294967296 ⌝ }
+    ensures { λ r. ⌜ r ≡ hasParts (now (rows .entry)) row ⌝ }
+{
+    let kind = words::number_at(rows, row * 4);
+    let a = words::number_at(rows, row * 4 + 1) as usize;
+    let count = words::number_at(rows, row * 4 + 2);
+    (kind == 7) & (0 < count) | (kind == 4) & (words::number_at(rows, a * 4) != 2)
+}
+
+// So many structs and arrays, each within the one before it, are walked by one call; a call of its own takes what is
+// nested deeper.
+pub const NESTED: usize = 8;
+
+// A struct or an array on the way: where it stands, and how many of its members or elements are done.
+pub struct Level {
+    pub row: usize,
+    pub done: usize,
+    pub at: usize,
+}
+
+// The row of the member or element that comes next in it.
+fn next_part(rows: &[u32], members: &[u32], level: Level) -> usize
+    requires { ⌜ (level .row < 256) × (level .done < 65536) ⌝ }
+    ensures { λ r. ⌜ (r ≡ nextPart (now (rows .entry)) (now (members .entry)) level) × (r < 4294967296) ⌝ }
+{
+    let a = words::number_at(rows, level.row * 4 + 1) as usize;
+    if words::number_at(rows, level.row * 4) == 7 {
+        return words::number_at(members, (a + level.done) * 2 + 1) as usize;
+    }
+    a
+}
+
+// Where the next member or element starts, or where the whole ends, after one that stops at a place.
+fn next_place(
+    rows: &[u32],
+    members: &[u32],
+    alignments: &[u32; 256],
+    level: Level,
+    stop: usize,
+) -> usize
+    requires { ⌜ (level .row < 256) × (level .done < 65536) × (level .at ≤ stop) × (stop ≤ 65536) ⌝ }
+    ensures { λ r. ⌜ r ≡ nextPlace (now (rows .entry)) (now (members .entry)) level (now (alignments .entry)) stop ⌝ }
+{
+    if words::number_at(rows, level.row * 4) == 4 {
+        return stop;
+    }
+    let first = words::number_at(rows, level.row * 4 + 1) as usize;
+    let end = first + words::number_at(rows, level.row * 4 + 2) as usize;
+    let offset = next_offset(
+        members,
+        alignments,
+        level.row,
+        first + level.done,
+        end,
+        (stop - level.at) as u32,
+    );
+    level.at + offset
+}
+
+// What comes next: fill; a member or element that has parts itself and is gone into, or one that is walked by a call; the
+// one around it goes on; or all is done.
+pub enum Step {
+    Fill(usize),
+    Into(usize),
+    Call(usize),
+    Out,
+    Done,
+}
+
+// `due`: a member or element has just ended at the place, and the fill after it comes first.
+pub fn next_step(
+    rows: &[u32],
+    members: &[u32],
+    alignments: &[u32; 256],
+    level: Level,
+    due: bool,
+    place: usize,
+    around: usize,
+) -> Step
+    requires { ⌜ (level .row < 256) × (level .done < 65536) × (level .at ≤ place) × (place ≤ 65536) ⌝ }
+    ensures { λ r. ⌜ r ≡ nextStep (now (rows .entry)) (now (members .entry)) level (now (alignments .entry)) due place around ⌝ }
+{
+    if due {
+        return Step::Fill(next_place(rows, members, alignments, level, place));
+    }
+    if level.done == words::number_at(rows, level.row * 4 + 2) as usize {
+        return if around == 0 { Step::Done } else { Step::Out };
+    }
+    let part = next_part(rows, members, level);
+    if (around < NESTED) & has_parts(rows, part) {
+        return Step::Into(part);
+    }
+    Step::Call(part)
+}

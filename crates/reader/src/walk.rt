@@ -1,0 +1,510 @@
+// Value walk, element walk and envelope walk: they call each other until the depth is spent. Rows of smaller numbers stand
+// in line; whatever stands out of line is one level down.
+ghost use mathlib.Core.Bool.{true};
+ghost use mathlib.Core.Path.{_≡_};
+ghost use Prim.Native.Nat.{_*_, _≤_, _<_};
+ghost use lib.ListN.{length};
+ghost use Rattle.rules.specs.TypeTable.{typeTable, kindAt};
+ghost use Rattle.rules.specs.Sizes.{sizeOf};
+ghost use Rattle.reader.specs.Doing.{Ask};
+ghost use Rattle.reader.specs.Walking.{Ready, Outside, KeptFits, hasParts, ValueDid, ElementsDid, EnvelopesDid, ContentDid};
+use crate::claims::fill_at;
+use crate::cursor::Cursor;
+use crate::cursor::Walked;
+use crate::cursor::gave;
+use crate::cursor::refused;
+use crate::envelopes::Kept;
+use crate::envelopes::Member;
+use crate::envelopes::content_of;
+use crate::envelopes::known_opened;
+use crate::envelopes::sealed;
+use crate::envelopes::union_member;
+use crate::envelopes::unknown_content;
+use crate::nesting::Level;
+use crate::nesting::NESTED;
+use crate::nesting::Step;
+use crate::nesting::has_parts;
+use crate::nesting::next_step;
+use crate::records::Opened;
+use crate::records::box_opened;
+use crate::records::string;
+use crate::records::table_opened;
+use crate::records::vector_opened;
+use crate::scalars::boolean;
+use crate::scalars::handle;
+use crate::scalars::number;
+use crate::scalars::numbers;
+
+// The value of a row at a place.
+pub fn value(
+    rows: &[u32],
+    members: &[u32],
+    sizes: &[u32; 256],
+    alignments: &[u32; 256],
+    bytes: &[u8],
+    held: usize,
+    values: &mut [u64],
+    objects: &mut [u32],
+    depth: usize,
+    row: usize,
+    at: usize,
+    c: Cursor,
+) -> Walked
+    requires { ⌜ Ready (now rows) (now members) (now sizes) (now alignments) depth row
+        × Ask (length (now bytes)) held (sizeOf (typeTable (now rows) (now members)) row) at c ⌝ }
+    ensures { λ r. ⌜ ValueDid (now (rows .entry)) (now (members .entry)) (now (bytes .entry)) held depth (now (values .entry)) (now (values .exit)) (now (objects .entry)) (now (objects .exit)) at c row r ⌝ }
+{
+    let kind = words::number_at(rows, row * 4);
+    let a = words::number_at(rows, row * 4 + 1);
+    if kind == 1 {
+        return boolean(bytes, values, at, c);
+    }
+    if kind == 2 {
+        return number(bytes, values, a, at, c);
+    }
+    if kind == 3 {
+        return handle(bytes, held, values, a, at, c);
+    }
+    if (kind == 4) | (kind == 7) {
+        if has_parts(rows, row) {
+            return composite(
+                rows,
+                members,
+                sizes,
+                alignments,
+                bytes,
+                held,
+                values,
+                objects,
+                depth,
+                row,
+                at,
+                c,
+            );
+        }
+        // the one byte of an empty struct is fill
+        if kind == 7 {
+            return fill_at(bytes, at, 1, c);
+        }
+        let width = words::number_at(rows, a as usize * 4 + 1);
+        let count = words::number_at(rows, row * 4 + 2) as usize;
+        return Walked::On(numbers(bytes, values, width, count, at, c));
+    }
+    if kind == 6 {
+        let largest = words::number_at(rows, row * 4 + 2);
+        let optional = words::number_at(rows, row * 4 + 3);
+        return string(
+            bytes,
+            held,
+            values,
+            objects,
+            depth,
+            row,
+            largest,
+            optional,
+            at,
+            c,
+        );
+    }
+    out_of_line(
+        rows,
+        members,
+        sizes,
+        alignments,
+        bytes,
+        held,
+        values,
+        objects,
+        depth,
+        row,
+        at,
+        c,
+    )
+}
+
+// As many values of a row as there are, one after the other.
+fn elements(
+    rows: &[u32],
+    members: &[u32],
+    sizes: &[u32; 256],
+    alignments: &[u32; 256],
+    bytes: &[u8],
+    held: usize,
+    values: &mut [u64],
+    objects: &mut [u32],
+    depth: usize,
+    row: usize,
+    count: usize,
+    at: usize,
+    c: Cursor,
+) -> Walked
+    requires { ⌜ Ready (now rows) (now members) (now sizes) (now alignments) depth row × Ask (length (now bytes)) held (count * sizeOf (typeTable (now rows) (now members)) row) at c ⌝ }
+    ensures { λ r. ⌜ ElementsDid (now (rows .entry)) (now (members .entry)) (now (bytes .entry)) held depth (now (values .entry)) (now (values .exit)) (now (objects .entry)) (now (objects .exit)) at c row count r ⌝ }
+{
+    let kind = words::number_at(rows, row * 4);
+    if kind == 2 {
+        let width = words::number_at(rows, row * 4 + 1);
+        return Walked::On(numbers(bytes, values, width, count, at, c));
+    }
+    let size = words::number_at(sizes, row) as usize;
+    let mut d = c;
+    let mut place = at;
+    let mut left = count;
+    while 0 < left {
+        match value(
+            rows,
+            members,
+            sizes,
+            alignments,
+            bytes,
+            held,
+            values,
+            objects,
+            depth,
+            row,
+            place,
+            d,
+        ) {
+            Walked::On(e) => {
+                d = e;
+            }
+            Walked::Refused(f) => {
+                return Walked::Refused(f);
+            }
+        }
+        place += size;
+        left -= 1;
+    }
+    Walked::On(d)
+}
+
+// A struct's members or an array's elements in turn, with the fill after each member.
+fn composite(
+    rows: &[u32],
+    members: &[u32],
+    sizes: &[u32; 256],
+    alignments: &[u32; 256],
+    bytes: &[u8],
+    held: usize,
+    values: &mut [u64],
+    objects: &mut [u32],
+    depth: usize,
+    row: usize,
+    at: usize,
+    c: Cursor,
+) -> Walked
+    requires { ⌜ Ready (now rows) (now members) (now sizes) (now alignments) depth row × (hasParts (now rows) row ≡ true)
+        × Ask (length (now bytes)) held (sizeOf (typeTable (now rows) (now members)) row) at c ⌝ }
+    ensures { λ r. ⌜ ValueDid (now (rows .entry)) (now (members .entry)) (now (bytes .entry)) held depth (now (values .entry)) (now (values .exit)) (now (objects .entry)) (now (objects .exit)) at c row r ⌝ }
+{
+    let mut kept = [Level {
+        row: 0,
+        done: 0,
+        at: 0,
+    }; NESTED];
+    let mut around: usize = 0;
+    let mut level = Level { row, done: 0, at };
+    let mut due = false;
+    let mut place = at;
+    let mut d = c;
+    loop {
+        match next_step(rows, members, alignments, level, due, place, around) {
+            Step::Fill(next) => match fill_at(bytes, place, next - place, d) {
+                Walked::On(e) => {
+                    d = e;
+                    place = next;
+                    level.done += 1;
+                    due = false;
+                }
+                Walked::Refused(f) => {
+                    return Walked::Refused(f);
+                }
+            },
+            Step::Into(part) => {
+                kept[around] = level;
+                around += 1;
+                level = Level {
+                    row: part,
+                    done: 0,
+                    at: place,
+                };
+            }
+            Step::Call(part) => {
+                match value(
+                    rows,
+                    members,
+                    sizes,
+                    alignments,
+                    bytes,
+                    held,
+                    values,
+                    objects,
+                    depth,
+                    part,
+                    place,
+                    d,
+                ) {
+                    Walked::On(e) => {
+                        d = e;
+                        place += words::number_at(sizes, part) as usize;
+                        due = true;
+                    }
+                    Walked::Refused(f) => {
+                        return Walked::Refused(f);
+                    }
+                }
+            }
+            Step::Out => {
+                around -= 1;
+                level = kept[around];
+                due = true;
+            }
+            Step::Done => {
+                return Walked::On(d);
+            }
+        }
+    }
+}
+
+// A value whose record leads out of line: vector, box, table or union.
+fn out_of_line(
+    rows: &[u32],
+    members: &[u32],
+    sizes: &[u32; 256],
+    alignments: &[u32; 256],
+    bytes: &[u8],
+    held: usize,
+    values: &mut [u64],
+    objects: &mut [u32],
+    depth: usize,
+    row: usize,
+    at: usize,
+    c: Cursor,
+) -> Walked
+    requires { ⌜ Ready (now rows) (now members) (now sizes) (now alignments) depth row × Outside (kindAt (typeTable (now rows) (now members)) row)
+        × Ask (length (now bytes)) held (sizeOf (typeTable (now rows) (now members)) row) at c ⌝ }
+    ensures { λ r. ⌜ ValueDid (now (rows .entry)) (now (members .entry)) (now (bytes .entry)) held depth (now (values .entry)) (now (values .exit)) (now (objects .entry)) (now (objects .exit)) at c row r ⌝ }
+{
+    let kind = words::number_at(rows, row * 4);
+    let a = words::number_at(rows, row * 4 + 1) as usize;
+    let b = words::number_at(rows, row * 4 + 2);
+    let form = words::number_at(rows, row * 4 + 3);
+    if kind == 5 {
+        let size = words::number_at(sizes, a) as usize;
+        return match vector_opened(
+            bytes,
+            held,
+            values,
+            objects,
+            depth,
+            row,
+            size,
+            b,
+            form,
+            at,
+            c,
+        ) {
+            Opened::Closed(d) => Walked::On(d),
+            Opened::Refused(f) => Walked::Refused(f),
+            Opened::Open(x) => elements(
+                rows,
+                members,
+                sizes,
+                alignments,
+                bytes,
+                held,
+                values,
+                objects,
+                depth - 1,
+                a,
+                x.count,
+                x.start,
+                x.cursor,
+            ),
+        };
+    }
+    if kind == 8 {
+        let size = words::number_at(sizes, a) as usize;
+        return match box_opened(bytes, held, values, objects, depth, a, size, at, c) {
+            Opened::Closed(d) => Walked::On(d),
+            Opened::Refused(f) => Walked::Refused(f),
+            Opened::Open(x) => value(
+                rows,
+                members,
+                sizes,
+                alignments,
+                bytes,
+                held,
+                values,
+                objects,
+                depth - 1,
+                a,
+                x.start,
+                x.cursor,
+            ),
+        };
+    }
+    if kind == 9 {
+        return match table_opened(bytes, held, values, objects, depth, row, at, c) {
+            Opened::Closed(d) => Walked::On(d),
+            Opened::Refused(f) => Walked::Refused(f),
+            Opened::Open(x) => envelopes(
+                rows,
+                members,
+                sizes,
+                alignments,
+                bytes,
+                held,
+                values,
+                objects,
+                depth - 1,
+                row,
+                x.count,
+                x.start,
+                x.cursor,
+            ),
+        };
+    }
+    match union_member(
+        members,
+        bytes,
+        held,
+        values,
+        depth,
+        row,
+        a,
+        b as usize,
+        form,
+        at,
+        c,
+    ) {
+        Member::None(d) => Walked::On(d),
+        Member::Bad(f) => Walked::Refused(f),
+        Member::Some(what, d) => content(
+            rows,
+            members,
+            sizes,
+            alignments,
+            bytes,
+            held,
+            values,
+            objects,
+            depth,
+            row,
+            what,
+            at + 8,
+            d,
+        ),
+    }
+}
+
+// A table's envelopes in turn.
+fn envelopes(
+    rows: &[u32],
+    members: &[u32],
+    sizes: &[u32; 256],
+    alignments: &[u32; 256],
+    bytes: &[u8],
+    held: usize,
+    values: &mut [u64],
+    objects: &mut [u32],
+    depth: usize,
+    row: usize,
+    count: usize,
+    at: usize,
+    c: Cursor,
+) -> Walked
+    requires { ⌜ Ready (now rows) (now members) (now sizes) (now alignments) depth row × (kindAt (typeTable (now rows) (now members)) row ≡ 9) × Ask (length (now bytes)) held (count * 8) at c ⌝ }
+    ensures { λ r. ⌜ EnvelopesDid (now (rows .entry)) (now (members .entry)) (now (bytes .entry)) held depth (now (values .entry)) (now (values .exit)) (now (objects .entry)) (now (objects .exit)) at c row count r ⌝ }
+{
+    let first = words::number_at(rows, row * 4 + 1) as usize;
+    let known = words::number_at(rows, row * 4 + 2) as usize;
+    let mut d = c;
+    let mut i: usize = 0;
+    while i < count {
+        let place = at + i * 8;
+        i += 1;
+        if words::load64(bytes, place) == 0 {
+            if i == count {
+                return refused(19, place);
+            }
+            d = gave(values, 0, d);
+        } else {
+            let what = content_of(members, first, known, i as u64);
+            let e = gave(values, 1, d);
+            match content(
+                rows,
+                members,
+                sizes,
+                alignments,
+                bytes,
+                held,
+                values,
+                objects,
+                depth,
+                row,
+                what,
+                place,
+                e,
+            ) {
+                Walked::On(f) => {
+                    d = f;
+                }
+                Walked::Refused(f) => {
+                    return Walked::Refused(f);
+                }
+            }
+        }
+    }
+    Walked::On(d)
+}
+
+// An envelope's content: a known payload one level down, or unknown content.
+fn content(
+    rows: &[u32],
+    members: &[u32],
+    sizes: &[u32; 256],
+    alignments: &[u32; 256],
+    bytes: &[u8],
+    held: usize,
+    values: &mut [u64],
+    objects: &mut [u32],
+    depth: usize,
+    row: usize,
+    what: Kept,
+    at: usize,
+    c: Cursor,
+) -> Walked
+    requires { ⌜ Ready (now rows) (now members) (now sizes) (now alignments) depth row × KeptFits (now rows) (now members) what × Ask (length (now bytes)) held 7 at c ⌝ }
+    ensures { λ r. ⌜ ContentDid (now (rows .entry)) (now (members .entry)) (now (bytes .entry)) held depth (now (values .entry)) (now (values .exit)) (now (objects .entry)) (now (objects .exit)) at c row what r ⌝ }
+{
+    match what {
+        Kept::Unknown => unknown_content(bytes, held, values, objects, depth, row, at, c),
+        Kept::Known(payload) => {
+            let size = words::number_at(sizes, payload) as usize;
+            match known_opened(bytes, held, objects, depth, payload, size, at, c) {
+                Opened::Closed(d) => Walked::On(d),
+                Opened::Refused(f) => Walked::Refused(f),
+                Opened::Open(x) => {
+                    match value(
+                        rows,
+                        members,
+                        sizes,
+                        alignments,
+                        bytes,
+                        held,
+                        values,
+                        objects,
+                        depth - 1,
+                        payload,
+                        x.start,
+                        x.cursor,
+                    ) {
+                        Walked::On(d) => sealed(bytes, size, at, c.next, c.handles, d),
+                        Walked::Refused(f) => Walked::Refused(f),
+                    }
+                }
+            }
+        }
+    }
+}
