@@ -1,23 +1,24 @@
 #!/usr/bin/env python3
-"""Makes what the program `cases` is run on, crates/cases/stdin, and what it must write, crates/cases/stdout, from the
-vector files beside this script.
+"""Makes what the programs `cases` and `roundtrip` are run on, their `stdin`, and what they must write, their `stdout`, from
+the vector files beside this script.
 
-usage: make.py            write the two files
-       make.py --check    fail if one of them is not what would be written now
-       make.py --line N   print the vector that line N of the stream is made from
+usage: make.py                    write the four files
+       make.py --check            fail if one of them is not what would be written now
+       make.py --line PROGRAM N   print the vector that line N of a program's stream is made from
 
-A line of the stream is a case: the operation's number, its inputs, and the answer that it must give, all as decimal
-numbers. A list, and bytes too, stand as their length and then their numbers.
+A line of the stream of `cases` is a case: the operation's number, its inputs, and the answer that it must give, all as
+decimal numbers. A list, and bytes too, stand as their length and then their numbers. A line of the stream of `roundtrip` is the
+message of a case of `check` or `read`: its inputs without rooms.
 """
 import pathlib
 import sys
 
 HERE = pathlib.Path(__file__).resolve().parent
-PROGRAM = HERE.parent / "crates" / "cases"
+CRATES = HERE.parent / "crates"
 FILES = ("text.txt", "base.txt", "conformance.txt", "document.txt", "circle.txt")
 
-# The operations that the program runs, in the order of their numbers, from 1 on.
-RUN = ("is_utf8", "sound", "layout", "header_read", "header_write", "check", "read")
+# The operations that `cases` runs, in the order of their numbers, from 1 on.
+RUN = ("is_utf8", "sound", "layout", "header_read", "header_write", "check", "read", "write")
 
 # The fields of each operation in the vector files: its inputs, and its answer.
 FIELDS = {
@@ -30,6 +31,10 @@ FIELDS = {
     "header_read": ("bytes", "number number number flags number number number"),
     "header_write": ("number flags number room", "number number bytes"),
 }
+
+# The operations whose messages `roundtrip` sends, and the inputs that a message is.
+SENT = ("check", "read")
+MESSAGE = "list list number bytes number"
 
 
 def listed(numbers):
@@ -67,39 +72,65 @@ def split(line):
     return operation, inputs, answer
 
 
-def vectors():
-    """Each vector that is run, with its file and its numbers, in the order of the stream."""
+def vectors(operations):
+    """Each vector of these operations, in the order of the files: its file, its line, and what `split` makes of it."""
     for name in FILES:
         for line in (HERE / name).read_text().splitlines():
             if line and not line.startswith("#"):
                 operation, inputs, answer = split(line)
-                if operation in RUN:
-                    kinds, answers = FIELDS[operation]
-                    numbers = numbers_of(kinds, inputs) + numbers_of(answers, answer)
-                    yield name, line, [1 + RUN.index(operation), *numbers]
+                if operation in operations:
+                    yield name, line, operation, inputs, answer
+
+
+def stream(lines):
+    return "".join(" ".join(map(str, numbers)) + "\n" for numbers in lines)
+
+
+def cases():
+    """The stream of `cases`, and its lines when every case passes."""
+    lines = []
+    for _, _, operation, inputs, answer in vectors(RUN):
+        kinds, answers = FIELDS[operation]
+        lines.append([1 + RUN.index(operation), *numbers_of(kinds, inputs), *numbers_of(answers, answer)])
+    counts = [sum(numbers[0] == number for numbers in lines) for number in range(1 + len(RUN))]
+    names = ("no operation", *RUN)
+    return stream(lines), "".join(f"{name}: {count} passed, 0 failed\n" for name, count in zip(names, counts))
+
+
+def roundtrip():
+    """The stream of `roundtrip`, and its lines when every message that is accepted comes back. It lends room enough, so that
+    22 is never answered."""
+    lines, told = [], []
+    for _, _, _, inputs, answer in vectors(SENT):
+        lines.append(numbers_of(MESSAGE, inputs[: len(MESSAGE.split())]))
+        number, place = answer[:2]
+        if number not in ("0", "22"):
+            told.append(f"line {len(lines)}: refused with {number} at {place}\n")
+    counts = {"same": len(lines) - len(told), "different": 0, "refused": len(told)}
+    return stream(lines), "".join(told) + "".join(f"{name}: {count}\n" for name, count in counts.items())
+
+
+# The programs, with the operations whose vectors their streams are made from.
+PROGRAMS = {"cases": (cases, RUN), "roundtrip": (roundtrip, SENT)}
 
 
 def made():
-    """The two files: the stream, and the program's lines when every case passes."""
-    cases = [numbers for _, _, numbers in vectors()]
-    counts = [sum(numbers[0] == number for numbers in cases) for number in range(1 + len(RUN))]
-    names = ("no operation", *RUN)
-    return {
-        "stdin": "".join(" ".join(map(str, numbers)) + "\n" for numbers in cases),
-        "stdout": "".join(f"{name}: {count} passed, 0 failed\n" for name, count in zip(names, counts)),
-    }
+    """Each program's two files."""
+    for name, (make, _) in PROGRAMS.items():
+        for file, text in zip(("stdin", "stdout"), make()):
+            yield CRATES / name / file, text
 
 
 def main(words):
     if not words:
-        for name, text in made().items():
-            (PROGRAM / name).write_text(text)
+        for path, text in made():
+            path.write_text(text)
     elif words == ["--check"]:
-        for name, text in made().items():
-            if (PROGRAM / name).read_text() != text:
-                sys.exit(f"crates/cases/{name} is not what vectors/make.py makes")
-    elif words[0] == "--line" and len(words) == 2:
-        name, line, _ = list(vectors())[int(words[1]) - 1]
+        for path, text in made():
+            if path.read_text() != text:
+                sys.exit(f"{path.relative_to(CRATES.parent)} is not what vectors/make.py makes")
+    elif words[0] == "--line" and len(words) == 3 and words[1] in PROGRAMS:
+        name, line, *_ = list(vectors(PROGRAMS[words[1]][1]))[int(words[2]) - 1]
         print(f"{name}: {line}")
     else:
         sys.exit(__doc__)

@@ -16,14 +16,14 @@ const MESSAGE_ROOM: usize = 4096;
 // More than a type table's list may hold, so that lists that are too long can be handed on as they are.
 const LIST_ROOM: usize = 4096;
 
-// More than a header's 16 bytes.
-const OUTPUT_ROOM: usize = 64;
+// More than a header or the message of any case that is written.
+const OUTPUT_ROOM: usize = 1024;
 
 // More than the value list or the object list of any case.
 const NUMBERS_ROOM: usize = 256;
 
 // Operations are numbered from 1 on; as 0 counts a case that names none of them.
-const OPERATIONS: usize = 8;
+const OPERATIONS: usize = 9;
 
 const FAILURES_SHOWN: usize = 8;
 
@@ -132,6 +132,7 @@ fn write_name(operation: usize) -> bool {
         5 => io::write_all(1, b"header_write"),
         6 => io::write_all(1, b"check"),
         7 => io::write_all(1, b"read"),
+        8 => io::write_all(1, b"write"),
         _ => io::write_all(1, b"no operation"),
     }
 }
@@ -145,6 +146,7 @@ fn passes(operation: usize, case: &[u64]) -> bool {
         5 => header_write(case),
         6 => check(case),
         7 => read(case),
+        8 => write(case),
         _ => false,
     }
 }
@@ -159,17 +161,6 @@ fn is_utf8(case: &[u64]) -> bool {
     let length = words::value_at(case, next + 1) as usize;
     let answer = [text::is_utf8(&message[..count], at, length) as u64];
     stream::same(stream::rest(case, next + 2), &answer)
-}
-
-// The place of a refusal, as the number that document 01 answers.
-fn place_number(f: rules::Fault) -> u64 {
-    let place = f.place;
-    match place {
-        rules::Place::Row(row) => row as u64,
-        rules::Place::Byte(offset) => offset as u64,
-        rules::Place::Index(index) => index as u64,
-        rules::Place::Amount(amount) => amount as u64,
-    }
 }
 
 // How many numbers of a case's row list and member list were put into the rooms, and where the case's other inputs start.
@@ -197,12 +188,21 @@ fn sound(case: &[u64]) -> bool {
     let mut rows = [0u32; LIST_ROOM];
     let mut members = [0u32; LIST_ROOM];
     let t = put_table(case, &mut rows, &mut members);
-    let prepared = layout::prepare(&rows[..t.rows], &members[..t.members]);
+    let mut sizes = [0u32; 256];
+    let mut alignments = [0u32; 256];
+    let verdict = layout::prepare(
+        &rows[..t.rows],
+        &members[..t.members],
+        &mut sizes,
+        &mut alignments,
+    );
     let answer = stream::rest(case, t.next);
-    let verdict = prepared.verdict;
     match verdict {
         layout::Soundness::Sound => stream::same(answer, &[0, 0]),
-        layout::Soundness::Refused(f) => stream::same(answer, &[f.number as u64, place_number(f)]),
+        layout::Soundness::Refused(f) => stream::same(
+            answer,
+            &[f.number as u64, rules::place_number(f)],
+        ),
     }
 }
 
@@ -220,7 +220,7 @@ fn layout_of(case: &[u64]) -> bool {
         ),
         layout::LayoutAnswer::Refused(f) => stream::same(
             answer,
-            &[f.number as u64, place_number(f), 0, 0],
+            &[f.number as u64, rules::place_number(f), 0, 0],
         ),
     }
 }
@@ -245,7 +245,10 @@ fn check(case: &[u64]) -> bool {
         handles,
     ) {
         reader::Verdict::Accepted => stream::same(answer, &[0, 0]),
-        reader::Verdict::Refused(f) => stream::same(answer, &[f.number as u64, place_number(f)]),
+        reader::Verdict::Refused(f) => stream::same(
+            answer,
+            &[f.number as u64, rules::place_number(f)],
+        ),
     }
 }
 
@@ -291,8 +294,8 @@ fn read_both(
 ) -> bool {
     let mut values = [u64::MAX; NUMBERS_ROOM];
     let mut objects = [u32::MAX; NUMBERS_ROOM];
-    let values_room = room_of(words::value_at(rest, 0));
-    let objects_room = room_of(words::value_at(rest, 1));
+    let values_room = room_of(words::value_at(rest, 0), NUMBERS_ROOM);
+    let objects_room = room_of(words::value_at(rest, 1), NUMBERS_ROOM);
     let answer = stream::first(stream::rest(rest, 2), 2);
     let given_values = stream::list(rest, 4);
     let given_objects = stream::list(rest, 5 + given_values.len());
@@ -308,7 +311,10 @@ fn read_both(
         reader::Reading::Accepted(n) => stream::same(answer, &[0, 0])
             & (n.values == given_values.len())
             & (n.objects == given_objects.len()),
-        reader::Reading::Refused(f) => stream::same(answer, &[f.number as u64, place_number(f)]),
+        reader::Reading::Refused(f) => stream::same(
+            answer,
+            &[f.number as u64, rules::place_number(f)],
+        ),
     };
     right & values_are(&values, given_values) & objects_are(&objects, given_objects)
 }
@@ -324,8 +330,8 @@ fn read_each(
 ) -> bool {
     let mut values = [u64::MAX; NUMBERS_ROOM];
     let mut objects = [u32::MAX; NUMBERS_ROOM];
-    let values_room = room_of(words::value_at(rest, 0));
-    let objects_room = room_of(words::value_at(rest, 1));
+    let values_room = room_of(words::value_at(rest, 0), NUMBERS_ROOM);
+    let objects_room = room_of(words::value_at(rest, 1), NUMBERS_ROOM);
     let answer = stream::first(stream::rest(rest, 2), 2);
     if words::value_at(answer, 0) == 22 {
         return true;
@@ -357,15 +363,22 @@ fn read_each(
 fn gives(given: reader::Given, answer: &[u64], count: usize) -> bool {
     match given {
         reader::Given::Accepted(n) => stream::same(answer, &[0, 0]) & (n == count),
-        reader::Given::Refused(f) => stream::same(answer, &[f.number as u64, place_number(f)]),
+        reader::Given::Refused(f) => stream::same(
+            answer,
+            &[f.number as u64, rules::place_number(f)],
+        ),
     }
 }
 
 // A room as a case names it, and not more than there is.
-fn room_of(room: u64) -> usize
-    ensures { λ r. ⌜ r ≤ 256 ⌝ }
+fn room_of(room: u64, most: usize) -> usize
+    ensures { λ r. ⌜ r ≤ most ⌝ }
 {
-    if room < 256 { room as usize } else { 256 }
+    if room < most as u64 {
+        room as usize
+    } else {
+        most
+    }
 }
 
 // Whether a list that was full of ones holds just these numbers, and ones after them.
@@ -429,7 +442,17 @@ fn header_read(case: &[u64]) -> bool {
         header::HeaderAnswer::Refused(f) => {
             stream::same(
                 answer,
-                &[f.number as u64, place_number(f), 0, 0, 0, 0, 0, 0, length],
+                &[
+                    f.number as u64,
+                    rules::place_number(f),
+                    0,
+                    0,
+                    0,
+                    0,
+                    0,
+                    0,
+                    length,
+                ],
             )
         }
     }
@@ -453,7 +476,8 @@ fn header_write(case: &[u64]) -> bool {
         header::HeaderWritten::Bytes(count) => stream::same(answer, &[0, 0])
             & wrote(&output, bytes, count),
         header::HeaderWritten::Refused(f) => {
-            stream::same(answer, &[f.number as u64, place_number(f)]) & wrote(&output, bytes, 0)
+            stream::same(answer, &[f.number as u64, rules::place_number(f)])
+                & wrote(&output, bytes, 0)
         }
     }
 }
@@ -485,4 +509,35 @@ fn wrote(output: &[u8; OUTPUT_ROOM], bytes: &[u64], count: usize) -> bool {
         at += 1;
     }
     right
+}
+
+// The row list, the member list, the root, the value list and the room; number, place, byte and handle counts, and the bytes
+// that were written. The output is lent full of ones, as for a header.
+fn write(case: &[u64]) -> bool {
+    let mut rows = [0u32; LIST_ROOM];
+    let mut members = [0u32; LIST_ROOM];
+    let t = put_table(case, &mut rows, &mut members);
+    let root = (words::value_at(case, t.next) % 4294967296) as u32;
+    let values = stream::list(case, t.next + 1);
+    let next = t.next + 2 + values.len();
+    let room = room_of(words::value_at(case, next), OUTPUT_ROOM);
+    let answer = stream::first(stream::rest(case, next + 1), 4);
+    let bytes = stream::list(case, next + 5);
+    let mut output = [255u8; OUTPUT_ROOM];
+    match writer::write(
+        &rows[..t.rows],
+        &members[..t.members],
+        root,
+        values,
+        &mut output[..room],
+    ) {
+        writer::Written::Accepted(n) => {
+            stream::same(answer, &[0, 0, n.bytes as u64, n.handles as u64])
+                & wrote(&output, bytes, n.bytes)
+        }
+        writer::Written::Refused(f) => {
+            stream::same(answer, &[f.number as u64, rules::place_number(f), 0, 0])
+                & wrote(&output, bytes, 0)
+        }
+    }
 }

@@ -14,7 +14,7 @@ use Rattle.rules.specs.declared.Layout.{Layout}
 use Rattle.rules.specs.Refusals.{tableNotSound, fault, accepted, refused, require}
 use Rattle.rules.specs.TypeTable.{TypeTable, rowCount}
 use Rattle.rules.specs.Sound.{listsWhole, rowSound, rowsSound, soundness}
-use Rattle.layout.specs.declared.Prepared.{Prepared}
+use Rattle.layout.specs.declared.Soundness.{Soundness}
 use Rattle.layout.specs.declared.Soundness.the-variants.{Sound}
 use Rattle.layout.specs.declared.kept.Judged.{Judged}
 use Rattle.layout.specs.declared.kept.Judged.the-variants.{Laid, Bad}
@@ -109,19 +109,19 @@ module _ {t : TypeTable} {row : ℕ} {sizes alignments : List ℕ} (c : Climbing
 
 -- ---- at the end
 
--- What `prepare` promises of its answer.
-abbrev pub Promised : TypeTable → Prepared → Type 0
-Promised t p = (verdictOf (p .verdict) ≡ soundness t) × ((p .sizes ≡ keptSizes t) × (p .alignments ≡ keptAlignments t))
+-- What `prepare` promises of its answer and of the arrays lent.
+abbrev pub Promised : TypeTable → Soundness → (sizes alignments : List ℕ) → Type 0
+Promised t r sizes alignments = (verdictOf r ≡ soundness t) × ((sizes ≡ keptSizes t) × (alignments ≡ keptAlignments t))
 
-pub refused-promised : (t : TypeTable) (p : Prepared) (row : ℕ) → p ≡ refusedAt row
-    → soundness t ≡ refused (fault tableNotSound (Row row)) → Promised t p
+pub refused-promised : (t : TypeTable) (r : Soundness) (row : ℕ) → r ≡ refusedAt row
+    → soundness t ≡ refused (fault tableNotSound (Row row)) → Promised t r (replicate 256 0) (replicate 256 0)
 unfolding keptSizes keptAlignments
-refused-promised t p row e bad =
+refused-promised t r row e bad =
     let f = fault tableNotSound (Row row) in
     rw e (sym bad, (part-refused (λ l. l .size) t f bad, part-refused (λ l. l .alignment) t f bad))
 
 pub sound-promised : {t : TypeTable} {row : ℕ} {sizes alignments : List ℕ} → Climbing t row sizes alignments → rowCount t ≤ row
-    → Promised t (record { verdict = Sound; sizes = sizes; alignments = alignments })
+    → Promised t Sound sizes alignments
 unfolding keptSizes keptAlignments
 sound-promised {t} {row} {sizes} {alignments} c h =
     let last = climbing-last c h in

@@ -5,3 +5,4 @@ pub mod Elements
 pub mod Members
 pub mod Keeping
 pub mod Climbing
+pub mod Roots

@@ -2,13 +2,14 @@
 -- Assumes nothing.
 use mathlib.Core.Bool.{Bool}
 use mathlib.Core.List.{List, [], _∷_}
+use mathlib.Core.Path.{_≡_}
 use Prim.Native.Nat.{ℕ, zero, suc}
 use lib.Dec.{ltb}
 use Rattle.rules.specs.declared.Layout.{Layout}
 use Rattle.rules.specs.Refusals.{Answer, accepted, refused, if_then_else_}
-use Rattle.rules.specs.TypeTable.{TypeTable, rowCount}
+use Rattle.rules.specs.TypeTable.{TypeTable, typeTable, rowCount}
 use Rattle.rules.specs.Sizes.{layoutOf}
-use Rattle.rules.specs.Sound.{soundness}
+use Rattle.rules.specs.Sound.{soundness, rootAllowed}
 use Rattle.layout.specs.declared.Soundness.{Soundness}
 use Rattle.layout.specs.declared.Soundness.the-variants as S
 use Rattle.layout.specs.declared.LayoutAnswer.{LayoutAnswer}
@@ -23,6 +24,10 @@ verdictOf (S.Refused f) = refused f
 abbrev pub answerOf : LayoutAnswer → Answer Layout
 answerOf (L.Laid l) = accepted l
 answerOf (L.Refused f) = refused f
+
+-- A root is allowed by the rows alone.
+abbrev pub RootIs : (rows : List ℕ) (root : ℕ) → Bool → Type 0
+RootIs rows root r = (members : List ℕ) → r ≡ rootAllowed (typeTable rows members) root
 
 -- A number is kept for a row in use of a sound table; else 0 stands in its place.
 abbrev pub keptIf : Answer (Unit {0}) → (inUse : Bool) → ℕ → ℕ

@@ -4,14 +4,14 @@ use mathlib.Core.Bool.{Bool, true, false}
 use mathlib.Core.List.{List}
 use mathlib.Core.Path.{_≡_}
 use Prim.Native.Nat.{ℕ, _≤_, _<_}
-use lib.ListN.{getD, length, replicate}
+use lib.ListN.{getD, length}
 use Rattle.rules.specs.declared.Layout.{Layout}
 use Rattle.rules.specs.declared.Place.the-variants.{Row}
 use Rattle.rules.specs.Refusals.{tableNotSound, fault}
 use Rattle.rules.specs.TypeTable.{TypeTable, typeOf}
 use Rattle.rules.specs.Sizes.{layoutOf}
 use Rattle.rules.specs.Sound.{rowFits, rowSound}
-use Rattle.layout.specs.declared.Prepared.{Prepared}
+use Rattle.layout.specs.declared.Soundness.{Soundness}
 use Rattle.layout.specs.declared.Soundness.the-variants.{Refused}
 use Rattle.layout.specs.declared.kept.Judged.{Judged}
 use Rattle.layout.specs.declared.kept.Judged.the-variants.{Laid, Bad}
@@ -44,7 +44,6 @@ judgedIf false l = Bad
 abbrev pub judged : TypeTable → (row : ℕ) → Judged
 judged t row = judgedIf (rowSound t row) (layoutOf t row)
 
--- 1, at a row: nothing is kept.
-abbrev pub refusedAt : (row : ℕ) → Prepared
-refusedAt row =
-    record { verdict = Refused (fault tableNotSound (Row row)); sizes = replicate 256 0; alignments = replicate 256 0 }
+-- 1, at a row.
+abbrev pub refusedAt : (row : ℕ) → Soundness
+refusedAt row = Refused (fault tableNotSound (Row row))

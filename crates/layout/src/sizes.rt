@@ -9,12 +9,18 @@ ghost use Rattle.rules.specs.TypeTable.{typeTable, typeAs};
 ghost use Rattle.rules.specs.Sizes.{layout, layoutAs};
 ghost use Rattle.layout.specs.Running.{placed, closed};
 
-// The next multiple of an alignment, at or after n.
+// The next multiple of an alignment, at or after n. The alignments that types have need no division.
 fn round_up(n: usize, alignment: usize) -> usize
     requires { ⌜ (0 < alignment) × (alignment ≤ 8) × (n ≤ 4294967296) ⌝ }
     ensures { λ r. ⌜ r ≡ roundUp n alignment ⌝ }
 {
-    (n + (alignment - 1)) / alignment * alignment
+    match alignment {
+        1 => n,
+        2 => (n + 1) / 2 * 2,
+        4 => (n + 3) / 4 * 4,
+        8 => (n + 7) / 8 * 8,
+        _ => (n + (alignment - 1)) / alignment * alignment,
+    }
 }
 
 fn larger(a: usize, b: usize) -> usize

@@ -15,6 +15,7 @@ use lines::put_values;
 use reader::Reading;
 use rules::Fault;
 use rules::Place;
+use rules::place_number;
 
 // The type table of document 01's cases.
 const ROWS: [u32; 20] = [2, 1, 0, 0, 2, 2, 0, 0, 6, 0, 8, 1, 7, 0, 2, 0, 9, 2, 3, 0];
@@ -25,18 +26,6 @@ const ROOT: u32 = 4;
 
 // The longest message that is judged.
 const LONGEST: usize = 8192;
-
-// The number of a place.
-fn place_number(place: Place) -> u64
-    ensures { λ r. ⌜ r ≡ placeNumber place ⌝ }
-{
-    match place {
-        Place::Row(row) => row as u64,
-        Place::Byte(offset) => offset as u64,
-        Place::Index(index) => index as u64,
-        Place::Amount(amount) => amount as u64,
-    }
-}
 
 // The two lines of every listing.
 fn put_head(out: &mut [u8], number: u32, place: u64) -> usize
@@ -49,8 +38,7 @@ fn put_head(out: &mut [u8], number: u32, place: u64) -> usize
 fn put_refusal(out: &mut [u8], f: Fault) -> usize
     ensures { λ r. ⌜ Puts (now (out .entry)) 0 (head (f .number) (placeNumber (f .place))) 55 r (now (out .exit)) ⌝ }
 {
-    let place = f.place;
-    put_head(out, f.number, place_number(place))
+    put_head(out, f.number, place_number(f))
 }
 
 fn put_counts(out: &mut [u8], at: usize, bytes: usize, objects: usize, values: usize) -> usize

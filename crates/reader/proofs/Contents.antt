@@ -10,29 +10,31 @@ use Rattle.rules.specs.TypeTable.{typeTable, rowCount, known}
 use Rattle.rules.specs.Sizes.{sizeOf}
 use Rattle.rules.specs.Envelope.{contentOfEightBytes}
 use Rattle.rules.specs.Walk as W
+use Rattle.nesting.specs.declared.Ordinal.{Ordinal}
+use Rattle.nesting.specs.declared.Ordinal.the-variants.{Known, Unknown}
+use Rattle.nesting.specs.Ordinals.{OrdinalFits}
+use Rattle.nesting.specs.Ready.{Ready}
+use Rattle.nesting.proofs.Readiness.{row-in-use, row-size, size-small, ready-at}
 use Rattle.reader.specs.declared.cursor.Cursor.{Cursor}
 use Rattle.reader.specs.declared.cursor.Walked.{Walked}
 use Rattle.reader.specs.declared.cursor.Walked.the-variants.{On, Refused}
 use Rattle.reader.specs.declared.records.Opening.{Opening}
 use Rattle.reader.specs.declared.records.Opened.{Opened}
 use Rattle.reader.specs.declared.records.Opened.the-variants.{Closed, Open}
-use Rattle.reader.specs.declared.envelopes.Kept.{Kept}
-use Rattle.reader.specs.declared.envelopes.Kept.the-variants.{Known, Unknown}
 use Rattle.reader.specs.Doing.{message, Ask}
 use Rattle.reader.specs.Opening.{Opens, sealedAt, payloadOf}
 use Rattle.reader.specs.Contracts.{UnknownDid, KnownOpens, SealDid}
-use Rattle.reader.specs.Walking.{Ready, KeptFits, ValueDid, ContentDid}
-use Rattle.reader.proofs.Readiness.{row-in-use, row-size, size-small, ready-at}
+use Rattle.reader.specs.Walking.{ValueDid, ContentDid}
 use Rattle.reader.proofs.Steps.{did-then, did-halt, went-on}
 
-pub content-unknown : (rows members bytes : List ℕ) (handles depth row at : ℕ) (v v′ o o′ : List ℕ) (c : Cursor) (what : Kept) (r : Walked)
+pub content-unknown : (rows members bytes : List ℕ) (handles depth row at : ℕ) (v v′ o o′ : List ℕ) (c : Cursor) (what : Ordinal) (r : Walked)
     → what ≡ Unknown → UnknownDid bytes handles depth v v′ o o′ at c row r → ContentDid rows members bytes handles depth v v′ o o′ at c row what r
 unfolding contentOfEightBytes
 content-unknown rows members bytes handles depth row at v v′ o o′ c what r e d = rw e (d rows members)
 
 -- A known payload's row is in use.
-module _ {rows members sizes alignments : List ℕ} {depth row payload : ℕ} (what : Kept) (ready : Ready rows members sizes alignments depth row)
-    (fits : KeptFits rows members what) (is : what ≡ Known payload) where
+module _ {rows members sizes alignments : List ℕ} {depth row payload : ℕ} (what : Ordinal) (ready : Ready rows members sizes alignments depth row)
+    (fits : OrdinalFits rows members what) (is : what ≡ Known payload) where
   in-use : payload < rowCount (typeTable rows members)
   in-use = rw is at fits
 
@@ -48,8 +50,8 @@ module _ {rows members sizes alignments : List ℕ} {depth row payload : ℕ} (w
   pub payload-ready : Ready rows members sizes alignments (depth - 1) payload
   payload-ready = ready-at ready (depth - 1) payload (omega arith) in-use
 
-module _ (rows members bytes : List ℕ) (handles depth row at : ℕ) (v o o′ : List ℕ) (c : Cursor) (what : Kept) {sizes alignments : List ℕ} {payload size : ℕ}
-    (ready : Ready rows members sizes alignments depth row) (fits : KeptFits rows members what) (is : what ≡ Known payload) (kept : size ≡ getD sizes payload 0)
+module _ (rows members bytes : List ℕ) (handles depth row at : ℕ) (v o o′ : List ℕ) (c : Cursor) (what : Ordinal) {sizes alignments : List ℕ} {payload size : ℕ}
+    (ready : Ready rows members sizes alignments depth row) (fits : OrdinalFits rows members what) (is : what ≡ Known payload) (kept : size ≡ getD sizes payload 0)
     (opened : Opened) (opens : KnownOpens bytes handles depth o o′ at c payload size opened) where
   opening : {r : Opened} → opened ≡ r
       → Opens (length bytes) handles 7 v v o o′ c

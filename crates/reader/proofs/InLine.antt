@@ -22,11 +22,13 @@ use Rattle.rules.specs.Records.{readNumber, presence, readPresence}
 use Rattle.rules.specs.Envelope.{decodeWord}
 use Rattle.words.proofs.Loads.{word-byte}
 use Rattle.words.proofs.Stores.{sets-past}
+use Rattle.nesting.specs.Ready.{widthAllowed}
+use Rattle.nesting.proofs.ByKind.{width-positive}
 use Rattle.reader.specs.declared.cursor.Cursor.{Cursor}
 use Rattle.reader.specs.declared.cursor.Walked.{Walked}
 use Rattle.reader.specs.declared.cursor.Walked.the-variants.{On, Refused}
 use Rattle.reader.specs.Doing.{message, gaveOne}
-use Rattle.reader.specs.Parts.{widthAllowed, boolAt, handleAt, numbersAt, DidValues, DidHandles}
+use Rattle.reader.specs.Parts.{boolAt, handleAt, numbersAt, wordsFrom, Whole, DidValues, DidHandles}
 use Rattle.reader.proofs.Steps.{cursor-same, did-stop, did-one}
 
 -- ---- widths
@@ -42,9 +44,9 @@ number-byte bytes width at {x} allowed not8 not4 not2 read = go (eqb width 1) re
         let z : false ≡ true = simp (e, ne-eqb _ _ not8, ne-eqb _ _ not4, ne-eqb _ _ not2) at allowed in
         absurd (let w : _≡_ {A = ℕ} 0 1 = cc in omega arith)
 
-pub width-positive : (width : ℕ) → widthAllowed width ≡ true → 0 < width
-width-positive zero allowed = absurd (let z : _≡_ {A = ℕ} 0 1 = cc in omega arith)
-width-positive (suc width) allowed = omega arith
+-- One that is neither of 1, of 2 nor of 4 bytes is of 8.
+pub width-eight : {width : ℕ} → widthAllowed width ≡ true → (width ≡ 1 → ⊥) → (width ≡ 2 → ⊥) → (width ≡ 4 → ⊥) → width ≡ 8
+width-eight {width} allowed not1 not2 not4 = eqb-true width 8 (simp (ne-eqb _ _ not1, ne-eqb _ _ not2, ne-eqb _ _ not4) at allowed)
 
 -- No more numbers than bytes: they can be counted.
 pub numbers-counted : (width count at first : ℕ) → at + count * width ≤ 65536 → widthAllowed width ≡ true → first < 4294967296 → Fits w64 (first + count)
@@ -109,17 +111,12 @@ module _ (bytes values : List ℕ) (held optional at : ℕ) (c : Cursor) {x : �
 
 -- ---- runs of numbers
 
--- The numbers of one width that stand in line from a place on,
-unfoldable pub wordsFrom : (bytes : List ℕ) (width at count : ℕ) → List ℕ
-wordsFrom bytes width at zero = []
-wordsFrom bytes width at (suc count) = word bytes at width ∷ wordsFrom bytes width (at + width) count
-
 length-wordsFrom : (bytes : List ℕ) (width at count : ℕ) → length (wordsFrom bytes width at count) ≡ count
 unfolding wordsFrom
 length-wordsFrom bytes width at zero = refl
 length-wordsFrom bytes width at (suc count) = ap suc (length-wordsFrom bytes width (at + width) count)
 
--- which are what the rules' run of numbers gives.
+-- The rules' run of numbers gives just these.
 elements-words : (m : D.Message) (width index count at next used : ℕ)
     → D.elements width (λ i. decodeWord m width) index count at next used ≡ D.went next used (wordsFrom (m .bytes) width at count) []
 unfolding D.elements D.sequence decodeWord D.recordThen readNumber wordsFrom
@@ -149,22 +146,38 @@ module _ (bytes before : List ℕ) (width count at first end : ℕ) (values : Li
   pub stored-length : length values ≡ length before
   stored-length = simp length-sets at (ap length stored)
 
--- What is left lies in a message that is not too long,
-abbrev pub Inside : (width end i p : ℕ) → Type 0
-Inside width end i p = p + (end - i) * width ≤ 65536
+  pub stored-room : end ≤ length before → i < end → i < length values
+  stored-room h more = omega (arith, stored-length)
 
-pub all-inside : (width count at first : ℕ) → at + count * width ≤ 65536 → Inside width (first + count) first at
-all-inside width count at first h = let n : first + count - first ≡ count = omega arith in rw n h
+-- A byte is a number of the width 1.
+pub stored-byte : (bytes before : List ℕ) (count at first end : ℕ) (values : List ℕ) (i p : ℕ) → Stored bytes before 1 count at first end values i p → i < end
+    → Stored bytes before 1 count at first end (set values i (getD bytes p 0)) (i + 1) (p + 1)
+stored-byte bytes before count at first end values i p stored more =
+    stored-more bytes before 1 count at first end values i p stored more (sym (word-byte bytes p)) refl
+
+pub bytes-stored : (bytes values values′ : List ℕ) (width count at first : ℕ) → width ≡ 1 → values′ ≡ sets values first (wordsFrom bytes 1 at count)
+    → values′ ≡ sets values first (wordsFrom bytes width at count)
+bytes-stored bytes values values′ width count at first one stored = rw one stored
+
+-- What is left lies before a place,
+abbrev pub Inside : (total width end i p : ℕ) → Type 0
+Inside total width end i p = p + (end - i) * width ≤ total
+
+pub all-inside : (total width count at first : ℕ) → at + count * width ≤ total → Inside total width (first + count) first at
+all-inside total width count at first h = let n : first + count - first ≡ count = omega arith in rw n h
 
 -- and so does the next number, and what is left after it.
-module _ (width end i p : ℕ) (inside : Inside width end i p) (more : i < end) where
+module _ (total width end i p : ℕ) (inside : Inside total width end i p) (more : i < end) where
   next-left : (end - i) * width ≡ (end - (i + 1)) * width + width
   next-left = let n : end - i ≡ suc (end - (i + 1)) = omega arith in rw n (suc-mul (end - (i + 1)) width)
 
-  pub next-fits : Fits w64 (p + width)
-  next-fits = record { fits = omega (arith, next-left) }
+  pub next-whole : p + width ≤ total
+  next-whole = omega (arith, next-left)
 
-  pub next-inside : Inside width end (i + 1) (p + width)
+  pub next-fits : Fits w64 total → Fits w64 (p + width)
+  next-fits h = record { fits = omega (arith, next-left) }
+
+  pub next-inside : Inside total width end (i + 1) (p + width)
   next-inside = omega (arith, next-left)
 
 -- A cursor after so many value numbers.

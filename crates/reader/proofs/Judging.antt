@@ -5,20 +5,20 @@ use mathlib.Core.Bool.{Bool, true, false}
 use mathlib.Core.List.{List}
 use Prim.Native.Nat.{ℕ}
 use native.Mathlib.Omega.{arith}
-use borrow.Author.Tests.{leb-true, ltb-true}
-use lib.Dec.{leb, ltb, eqb}
+use borrow.Author.Tests.{leb-true}
+use lib.Dec.{leb, eqb}
 use lib.ListN.{length}
 use Rattle.rules.specs.declared.Fault.{Fault}
 use Rattle.rules.specs.declared.Place.the-variants.{Amount}
 use Rattle.rules.specs.Refusals.{fault, tooManyHandles, Answer, accepted, refused, require, andThen}
-use Rattle.rules.specs.TypeTable.{typeTable, rowCount, typeOf}
-use Rattle.rules.specs.Sound.{soundness, rootKind, rootAllowed, requireRow}
+use Rattle.rules.specs.TypeTable.{typeTable}
+use Rattle.rules.specs.Sound.{soundness, rootAllowed, requireRow}
 use Rattle.rules.specs.Trace.{objectList}
 use Rattle.rules.specs.Decode.{Message, Decoded, went, stopped, traceOf}
 use Rattle.rules.specs.Answers as A
 use Rattle.rules.specs.Answers.{walk, finished, requireLength, judged}
 use Rattle.layout.specs.Answers.{keptSizes, keptAlignments}
-use Rattle.layout.proofs.Rows.{both}
+use Rattle.layout.proofs.Roots.{root-in-use}
 use Rattle.reader.specs.declared.Verdict.{Verdict}
 use Rattle.reader.specs.declared.Verdict.the-variants as Checked
 use Rattle.reader.specs.declared.Lengths.{Lengths}
@@ -70,7 +70,6 @@ before-passed m root e =
 walkable : (rows members bytes : List ℕ) (root handles : ℕ) {sizes alignments : List ℕ}
     → before (message rows members bytes handles) root ≡ accepted tt → sizes ≡ keptSizes (typeTable rows members)
     → alignments ≡ keptAlignments (typeTable rows members) → Walkable rows members bytes root handles sizes alignments
-unfolding rootAllowed
 walkable rows members bytes root handles e s a =
     let t = typeTable rows members in
     let p = before-passed (message rows members bytes handles) root e in
@@ -80,7 +79,7 @@ walkable rows members bytes root handles e s a =
         sizes-kept = s;
         alignments-kept = a;
         depth-left = omega arith;
-        in-use = ltb-true root (rowCount t) (both (ltb root (rowCount t)) (rootKind (typeOf t root)) (p .1) .0);
+        in-use = root-in-use t root (p .1);
       };
       short = leb-true (length bytes) 65536 (p .2);
       few = leb-true handles 64 (p .3);

@@ -1,13 +1,11 @@
 -- What the public functions answer, and what they leave in the lists lent: after every test of the checker, 22.
 -- Assumes nothing.
 use mathlib.Core.Path.{_≡_, refl, ap, _∙_}
-use mathlib.Core.List.{List, _++_}
+use mathlib.Core.List.{List}
 use Prim.Native.Nat.{ℕ, _≤_, _<_}
-use native.Mathlib.Nat.{zero-add}
 use native.Mathlib.Omega.{arith}
-use borrow.Author.Tests.{le-leb, lt-leb}
-use lib.ListN.{length, drop}
-use lib.Seq.{sets, sets-eq}
+use lib.ListN.{length}
+use lib.Seq.{sets}
 use Rattle.rules.specs.declared.Fault.{Fault}
 use Rattle.rules.specs.declared.Place.the-variants.{Amount}
 use Rattle.rules.specs.Refusals.{fault, roomTooSmall, Answer, accepted, refused, lentAfter}
@@ -15,6 +13,7 @@ use Rattle.rules.specs.Trace.{objectList}
 use Rattle.rules.specs.Decode.{Message}
 use Rattle.rules.specs.Answers as A
 use Rattle.rules.specs.Answers.{Lists, judged, requireRoom}
+use Rattle.rules.proofs.Rooms.{room-short, room-enough, stored-list}
 use Rattle.reader.specs.declared.Lengths.{Lengths}
 use Rattle.reader.specs.declared.Reading.{Reading}
 use Rattle.reader.specs.declared.Reading.the-variants.{Accepted, Refused}
@@ -24,17 +23,6 @@ use Rattle.reader.specs.Passing.{Passed, judgedLengths}
 use Rattle.reader.proofs.Judging.{Held, as-refused, as-held, held-lists}
 
 -- ---- a list that is lent
-
-room-short : {A : Type 0} (room : ℕ) {needed count : ℕ} (x : Answer A) → needed ≡ count → room < needed
-    → requireRoom count room x ≡ refused (fault roomTooSmall (Amount needed))
-room-short room {needed} x e h = rw (← e, lt-leb needed room h)
-
-room-enough : {A : Type 0} (room : ℕ) {needed count : ℕ} (x : Answer A) → needed ≡ count → needed ≤ room → requireRoom count room x ≡ x
-room-enough room {needed} x e h = rw (← e, le-leb needed room h)
-
--- A list stored from the start on, where there is room for it.
-stored-list : (list lent : List ℕ) → length list ≤ length lent → sets lent 0 list ≡ list ++ drop (length list) lent
-stored-list list lent h = rw zero-add at (sets-eq list lent 0 (omega arith))
 
 -- One list: what is answered of it, and what it holds after.
 abbrev pub Gives : (given : Answer (List ℕ)) (lent : List ℕ) (answer : Answer ℕ) (after : List ℕ) → Type 0

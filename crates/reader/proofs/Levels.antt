@@ -1,8 +1,8 @@
--- So many levels of depth: none is left, or one more and what lies below it.
+-- So many levels of depth: none is left, or one more and what lies below it. Where an object is open, one is left.
 -- Assumes nothing.
 use mathlib.Core.Path.{_≡_, refl}
 use mathlib.Core.List.{List}
-use Prim.Native.Nat.{ℕ, zero, suc, _-_}
+use Prim.Native.Nat.{ℕ, zero, suc, _-_, _<_}
 use native.Mathlib.Omega.{arith}
 use Rattle.rules.specs.declared.Place.the-variants.{Byte}
 use Rattle.rules.specs.Refusals.{fault, tooDeep}
@@ -12,7 +12,11 @@ use Rattle.rules.specs.Walk as W
 use Rattle.reader.specs.declared.cursor.Cursor.{Cursor}
 use Rattle.reader.specs.declared.cursor.Walked.{Walked}
 use Rattle.reader.specs.declared.cursor.Walked.the-variants.{Refused}
+use Rattle.reader.specs.declared.records.Opening.{Opening}
+use Rattle.reader.specs.declared.records.Opened.{Opened}
+use Rattle.reader.specs.declared.records.Opened.the-variants.{Open}
 use Rattle.reader.specs.Doing.{Did}
+use Rattle.reader.specs.Opening.{Reaches}
 use Rattle.reader.proofs.Steps.{did-stop}
 
 pub levels-spent : (m : Message) (depth : ℕ) → depth ≡ 0 → W.levels m depth ≡ D.spent
@@ -31,3 +35,7 @@ levels-down m (suc depth) n = let e : suc depth - 1 ≡ depth = omega arith in r
 pub too-deep : {total handles g : ℕ} {v o : List ℕ} {c : Cursor} {r : Walked} (m : Message) (depth record-at at n u : ℕ) (k : (ℕ → Decoder) → D.Deeper → Decoder)
     → depth ≡ 0 → r ≡ Refused (fault tooDeep (Byte record-at)) → Did total handles g v v o o c r (D.oneDeeper (W.levels m depth) record-at k at n u)
 too-deep m depth record-at at n u k e y = rw (levels-spent m depth e, y) did-stop
+
+-- Where an object is open, a level is left.
+pub level-left : (depth : ℕ) (r : Opened) {x : Opening} → Reaches depth r → r ≡ Open x → 0 < depth
+level-left depth r h e = rw e at h

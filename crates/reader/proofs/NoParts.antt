@@ -1,89 +1,45 @@
--- The value walk's tests: which kind is left after them, and what a struct or an array without parts is.
+-- A struct or an array without parts, as the value walk takes it, and what the scalars ask for.
 -- Assumes nothing.
-use mathlib.Core.Bool.{Bool, true, false, not, _||_}
+use mathlib.Core.Bool.{Bool, true, false, _||_}
 use mathlib.Core.List.{List}
 use mathlib.Core.Path.{_≡_, refl, sym, _∙_}
 use Prim.Native.Nat.{ℕ, _+_, _*_, _≤_, _<_}
 use native.Mathlib.Omega.{arith}
-use borrow.Author.Tests.{eqb-true, eqb-false, ltb-false, ne-eqb}
-use lib.Dec.{eqb, ltb}
+use lib.Dec.{eqb}
 use lib.ListN.{length, getD}
-use Rattle.rules.specs.TypeTable.{TypeTable, typeTable, kindAt, bAt, memberRows}
-use Rattle.rules.specs.Sizes.{fieldsFrom, fieldsOf, structSize, layoutAs, sizeOf}
+use Rattle.rules.specs.TypeTable.{typeTable, kindAt, bAt, memberRows}
+use Rattle.rules.specs.Sizes.{fieldsFrom, fieldsOf, sizeOf}
 use Rattle.rules.specs.Decode as D
 use Rattle.rules.specs.Decode.{Message}
 use Rattle.rules.specs.Walk as W
+use Rattle.nesting.specs.Nesting.{hasParts}
+use Rattle.nesting.specs.Ready.{Ready, widthAllowed}
+use Rattle.nesting.proofs.Below.{AllBelow}
+use Rattle.nesting.proofs.ByKind.{size-array, size-string, number-width, width-positive, array-below}
+use Rattle.nesting.proofs.NoParts.{array-left, struct-empty, array-numbers, size-empty}
+use Rattle.nesting.proofs.Readiness.{row-few, ready-at}
 use Rattle.reader.specs.declared.cursor.Cursor.{Cursor}
 use Rattle.reader.specs.declared.cursor.Walked.{Walked}
 use Rattle.reader.specs.declared.cursor.Walked.the-variants.{On}
 use Rattle.reader.specs.Doing.{message, Ask}
-use Rattle.reader.specs.Parts.{widthAllowed, numbersAt, DidValues, DidNeither}
-use Rattle.reader.specs.Walking.{Ready, Outside, hasParts, ValueDid}
+use Rattle.reader.specs.Parts.{numbersAt, DidValues, DidNeither}
+use Rattle.reader.specs.Walking.{ValueDid}
 use Rattle.reader.proofs.Steps.{did-more}
-use Rattle.reader.proofs.ByKind.{none, decode-struct}
-use Rattle.reader.proofs.InLine.{width-positive}
-use Rattle.reader.proofs.Readiness.{ready-at}
+use Rattle.reader.proofs.ByKind.{decode-struct}
 use Rattle.reader.proofs.Numbers.{numbers-ask, numbers-done}
-use Rattle.reader.proofs.Values.{size-kind, size-array, size-string, number-width, array-below, value-array}
-
--- ---- tests of two kinds
-
-array-left : (k : ℕ) → (eqb k 4 || eqb k 7) ≡ true → (k ≡ 7 → ⊥) → k ≡ 4
-array-left k e n = eqb-true k 4 (go (eqb k 4) (eqb k 7) e (ne-eqb k 7 n))
-  where
-    go : (a b : Bool) → (a || b) ≡ true → b ≡ false → a ≡ true
-    go true b h f = refl
-    go false b h f = sym f ∙ h
-
--- None of the kinds that stand in line.
-pub outside-left : (rows members : List ℕ) (row : ℕ) {k : ℕ} → k ≡ getD rows (row * 4) 0 → (k ≡ 1 → ⊥) → (k ≡ 2 → ⊥) → (k ≡ 3 → ⊥) → (eqb k 4 || eqb k 7) ≡ false → (k ≡ 6 → ⊥)
-    → Outside (kindAt (typeTable rows members) row)
-outside-left rows members row {k} e n₁ n₂ n₃ q n₆ =
-    let b = neither (eqb k 4) (eqb k 7) q in
-    (λ z. n₁ (e ∙ z), λ z. n₂ (e ∙ z), λ z. n₃ (e ∙ z), λ z. eqb-false k 4 (b .0) (e ∙ z), λ z. n₆ (e ∙ z), λ z. eqb-false k 7 (b .1) (e ∙ z))
-  where
-    neither : (a b : Bool) → (a || b) ≡ false → (a ≡ false) × (b ≡ false)
-    neither true b h = absurd (let z : _≡_ {A = ℕ} 0 1 = cc in omega arith)
-    neither false b h = (refl, h)
-
--- ---- no parts
-
-module _ (rows : List ℕ) (row : ℕ) (parts : hasParts rows row ≡ false) where
-  -- a struct that has none is empty,
-  struct-empty : getD rows (row * 4) 0 ≡ 7 → getD rows (row * 4 + 2) 0 ≡ 0
-  struct-empty e =
-      let h : (ltb 0 (getD rows (row * 4 + 2) 0) || false) ≡ false = rw e at parts in
-      omega (arith, ltb-false 0 (getD rows (row * 4 + 2) 0) (go (ltb 0 (getD rows (row * 4 + 2) 0)) h))
-    where
-      go : (a : Bool) → (a || false) ≡ false → a ≡ false
-      go true h = h
-      go false h = refl
-
-  -- and an array is one of numbers.
-  array-numbers : getD rows (row * 4) 0 ≡ 4 → getD rows (getD rows (row * 4 + 1) 0 * 4) 0 ≡ 2
-  array-numbers e =
-      let h : not (eqb (getD rows (getD rows (row * 4 + 1) 0 * 4) 0) 2) ≡ false = rw e at parts in
-      eqb-true _ 2 (go (eqb (getD rows (getD rows (row * 4 + 1) 0 * 4) 0) 2) h)
-    where
-      go : (a : Bool) → not a ≡ false → a ≡ true
-      go true h = refl
-      go false h = sym h
+use Rattle.reader.proofs.Values.{value-array}
 
 -- ---- an empty struct
 
-size-empty : (t : TypeTable) (row : ℕ) → kindAt t row ≡ 7 → bAt t row ≡ 0 → sizeOf t row ≡ 1
-unfolding layoutAs structSize fieldsOf fieldsFrom memberRows
-size-empty t row e z = size-kind t row e ∙ rw z
-
 decode-empty : (m : Message) (deep : D.Deeper) (row : ℕ) → kindAt (m .table) row ≡ 7 → bAt (m .table) row ≡ 0 → W.decodeRow m deep row ≡ D.fill m 1
 unfolding W.structFields fieldsOf fieldsFrom memberRows
-decode-empty m deep row e z = decode-struct m deep row e (rw z none) ∙ rw z
+decode-empty m deep row e z = decode-struct m deep row e (rw z AllBelow.none) ∙ rw z
 
-pub value-empty : (rows members bytes : List ℕ) (handles depth row at : ℕ) (v o : List ℕ) (c : Cursor) (r : Walked) {k : ℕ} {found : Bool} → k ≡ getD rows (row * 4) 0 → k ≡ 7 → found ≡ hasParts rows row → found ≡ false
+pub value-empty : {rows members sizes alignments : List ℕ} {depth row : ℕ} → Ready rows members sizes alignments depth row → (bytes : List ℕ) (handles at : ℕ) (v o : List ℕ) (c : Cursor) (r : Walked) {k : ℕ} {found : Bool} → k ≡ getD rows (row * 4) 0 → k ≡ 7 → found ≡ hasParts rows row → found ≡ false
     → c .next ≤ length bytes → c .handles ≤ handles → DidNeither bytes 0 at c r (λ m. D.fill m 1) → ValueDid rows members bytes handles depth v v o o at c row r
-value-empty rows members bytes handles depth row at v o c r e q p n h l d =
+value-empty {rows} {members} {depth = depth} {row} ready bytes handles at v o c r e q p n h l d =
     let m = message rows members bytes handles in
-    let z = struct-empty rows row (sym p ∙ n) (sym e ∙ q) in
+    let z = struct-empty rows row (row-few ready) (sym p ∙ n) (sym e ∙ q) in
     rw (decode-empty m (W.levels m depth) row (sym e ∙ q) z, size-empty (typeTable rows members) row (sym e ∙ q) z) (did-more 1 (omega arith) (d rows members v o handles h l))
 
 -- ---- an array of numbers
@@ -101,7 +57,7 @@ module _ {rows members sizes alignments : List ℕ} {depth row : ℕ} (ready : R
   element = let h = below in ready-at ready depth a (omega arith) (omega (arith, ready .in-use))
 
   numbered : getD rows (a * 4) 0 ≡ 2
-  numbered = rw f (array-numbers rows row (sym p ∙ n) (sym e ∙ q))
+  numbered = rw f (array-numbers rows row (row-few ready) (sym p ∙ n) (sym e ∙ q))
 
   elements-ask : {total handles at : ℕ} {c : Cursor} → Ask total handles (sizeOf (typeTable rows members) row) at c → Ask total handles (b * sizeOf (typeTable rows members) a) at c
   elements-ask ask = rw (f, g) (rw (size-array (typeTable rows members) row (sym e ∙ q) (rw f at below)) at ask)

@@ -10,15 +10,15 @@ use lib.ListN.{length, getD}
 use Rattle.rules.specs.TypeTable.{typeTable}
 use Rattle.rules.specs.Sizes.{sizeOf}
 use Rattle.rules.specs.Walk as W
+use Rattle.nesting.specs.Ready.{Ready, widthAllowed}
+use Rattle.nesting.proofs.ByKind.{number-width, size-number, width-positive}
 use Rattle.reader.specs.declared.cursor.Cursor.{Cursor}
 use Rattle.reader.specs.declared.cursor.Walked.the-variants.{On}
 use Rattle.reader.specs.Doing.{message, Ask}
-use Rattle.reader.specs.Parts.{widthAllowed, numbersAt, DidValues}
-use Rattle.reader.specs.Walking.{Ready, ElementsDid}
+use Rattle.reader.specs.Parts.{numbersAt, DidValues}
+use Rattle.reader.specs.Walking.{ElementsDid}
 use Rattle.reader.proofs.Steps.{did-more}
 use Rattle.reader.proofs.ByKind.{decode-number}
-use Rattle.reader.proofs.InLine.{width-positive}
-use Rattle.reader.proofs.Values.{number-width, size-number}
 
 module _ {rows members sizes alignments : List ℕ} {depth row : ℕ} (ready : Ready rows members sizes alignments depth row) {k width : ℕ}
     (e : k ≡ getD rows (row * 4) 0) (q : k ≡ 2) (f : width ≡ getD rows (row * 4 + 1) 0) where

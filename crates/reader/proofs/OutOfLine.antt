@@ -2,35 +2,42 @@
 -- Assumes nothing.
 use mathlib.Core.List.{List}
 use mathlib.Core.Path.{_≡_, refl, sym, _∙_}
-use Prim.Native.Nat.{ℕ, _+_, _-_, _*_}
+use Prim.Native.Nat.{ℕ, _+_, _-_, _*_, _≤_, _<_}
 use native.Mathlib.Omega.{arith}
 use lib.ListN.{length, getD}
 use Rattle.rules.specs.declared.Fault.{Fault}
-use Rattle.rules.specs.TypeTable.{typeTable, kindAt, aAt, bAt, contentOf}
+use Rattle.rules.specs.TypeTable.{typeTable, rowCount, kindAt, aAt, bAt, contentOf}
 use Rattle.rules.specs.Sizes.{sizeOf}
 use Rattle.rules.specs.Decode as D
 use Rattle.rules.specs.Decode.{Decoded}
 use Rattle.rules.specs.Envelope.{contentOfEightBytes, decodeContent}
 use Rattle.rules.specs.Walk as W
+use Rattle.nesting.specs.declared.Ordinal.{Ordinal}
+use Rattle.nesting.specs.Ordinals.{ordinalIs}
+use Rattle.nesting.specs.Ready.{Ready}
+use Rattle.nesting.proofs.ByKind.{size-vector, size-box, size-table, size-union}
+use Rattle.nesting.proofs.Readiness.{row-size, few-elements}
+use Rattle.nesting.proofs.Members.{vector-in-use, box-in-use}
 use Rattle.reader.specs.declared.cursor.Cursor.{Cursor}
 use Rattle.reader.specs.declared.cursor.Walked.{Walked}
 use Rattle.reader.specs.declared.cursor.Walked.the-variants.{On, Refused}
 use Rattle.reader.specs.declared.records.Opening.{Opening}
 use Rattle.reader.specs.declared.records.Opened.{Opened}
 use Rattle.reader.specs.declared.records.Opened.the-variants.{Closed, Open}
-use Rattle.reader.specs.declared.envelopes.Kept.{Kept}
 use Rattle.reader.specs.declared.envelopes.Member.{Member}
 use Rattle.reader.specs.declared.envelopes.Member.the-variants.{None, Some, Bad}
 use Rattle.reader.specs.Doing.{message, Ask}
-use Rattle.reader.specs.Opening.{Opens, OpensMember, keptOf, elementsOf, valueOf}
+use Rattle.reader.specs.Opening.{Opens, OpensMember, elementsOf, valueOf}
 use Rattle.reader.specs.Contracts.{CountedOpens, BoxOpens, TableOpens, UnionOpens}
-use Rattle.reader.specs.Walking.{Ready, walkRow, envelopeAt, ValueDid, ElementsDid, EnvelopesDid, ContentDid}
+use Rattle.reader.specs.Walking.{walkRow, envelopeAt, ValueDid, ElementsDid, EnvelopesDid, ContentDid}
 use Rattle.reader.proofs.ByKind.{decode-vector, decode-box, decode-table, decode-union}
 use Rattle.reader.proofs.Steps.{did-more}
 use Rattle.reader.proofs.Counts.{vector-opens}
-use Rattle.reader.proofs.Readiness.{row-size}
-use Rattle.reader.proofs.Members.{vector-in-use, box-in-use}
-use Rattle.reader.proofs.Values.{size-vector, size-box, size-table, size-union}
+
+-- No more elements than the message has bytes.
+pub elements-few : {rows members sizes alignments : List ℕ} {depth row : ℕ} → Ready rows members sizes alignments depth row → (element : ℕ) → element < rowCount (typeTable rows members)
+    → {total handles at : ℕ} {c : Cursor} (count : ℕ) → Ask total handles (count * sizeOf (typeTable rows members) element) at c → count ≤ 65536
+elements-few ready element h count a = few-elements ready element h count (omega (arith, a .inside, a .short))
 
 -- The record's own bytes, by its kind.
 module _ (rows members : List ℕ) (row : ℕ) {k total handles at : ℕ} {c : Cursor} (e : k ≡ getD rows (row * 4) 0) (a : Ask total handles (sizeOf (typeTable rows members) row) at c) where
@@ -145,7 +152,7 @@ module _ (rows members bytes : List ℕ) (handles depth row at : ℕ) (v v′ o 
     (e : k ≡ getD rows (row * 4) 0) (f : a ≡ getD rows (row * 4 + 1) 0) (g : b ≡ getD rows (row * 4 + 2) 0) (h : form ≡ getD rows (row * 4 + 3) 0) (q : k ≡ 10)
     (p : UnionOpens bytes handles depth v v′ at c members row a b form r) where
   union-whole : OpensMember (length bytes) handles (sizeOf (typeTable rows members) row) v v′ o o c (walkRow rows members bytes handles depth row at (c .next) (c .handles))
-      (λ what d. contentOfEightBytes (message rows members bytes handles) (W.levels (message rows members bytes handles) depth) row (keptOf what) (at + 8) (d .next) (d .handles)) r
+      (λ what d. contentOfEightBytes (message rows members bytes handles) (W.levels (message rows members bytes handles) depth) row (ordinalIs what) (at + 8) (d .next) (d .handles)) r
   union-whole =
       let m = message rows members bytes handles in
       let kind : kindAt (typeTable rows members) row ≡ 10 = sym e ∙ q in
@@ -153,7 +160,7 @@ module _ (rows members bytes : List ℕ) (handles depth row at : ℕ) (v v′ o 
 
   union-row : {is : Member} → r ≡ is
       → OpensMember (length bytes) handles (sizeOf (typeTable rows members) row) v v′ o o c (walkRow rows members bytes handles depth row at (c .next) (c .handles))
-      (λ what d. contentOfEightBytes (message rows members bytes handles) (W.levels (message rows members bytes handles) depth) row (keptOf what) (at + 8) (d .next) (d .handles)) is
+      (λ what d. contentOfEightBytes (message rows members bytes handles) (W.levels (message rows members bytes handles) depth) row (ordinalIs what) (at + 8) (d .next) (d .handles)) is
   union-row z = rw z at union-whole
 
   pub union-none : {d : Cursor} → r ≡ None d → ValueDid rows members bytes handles depth v v′ o o at c row (On d)
@@ -162,7 +169,7 @@ module _ (rows members bytes : List ℕ) (handles depth row at : ℕ) (v v′ o 
   pub union-bad : {f : Fault} → r ≡ Bad f → ValueDid rows members bytes handles depth v v′ o o at c row (Refused f)
   union-bad z = union-row z
 
-  pub union-asks : {what : Kept} {d : Cursor} → r ≡ Some what d → Ask (length bytes) handles 16 at c → Ask (length bytes) handles 7 (at + 8) d
+  pub union-asks : {what : Ordinal} {d : Cursor} → r ≡ Some what d → Ask (length bytes) handles 16 at c → Ask (length bytes) handles 7 (at + 8) d
   union-asks z a =
       let u = union-row z in
       record {
@@ -174,6 +181,6 @@ module _ (rows members bytes : List ℕ) (handles depth row at : ℕ) (v v′ o 
         small = omega (arith, a .small, u .0, u .2, u .3);
       }
 
-  pub union-done : {v″ o″ : List ℕ} {what : Kept} {d : Cursor} {w : Walked} → r ≡ Some what d
+  pub union-done : {v″ o″ : List ℕ} {what : Ordinal} {d : Cursor} {w : Walked} → r ≡ Some what d
       → ContentDid rows members bytes handles depth v′ v″ o o″ (at + 8) d row what w → ValueDid rows members bytes handles depth v v″ o o″ at c row w
   union-done {v″} {o″} {w = w} z did = union-row z .4 v″ o″ w (did-more 8 (omega arith) did)

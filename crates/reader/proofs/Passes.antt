@@ -20,6 +20,7 @@ use Rattle.rules.specs.Walk as W
 use Rattle.rules.specs.Answers.{walk, finished}
 use Rattle.layout.proofs.Rows.{sound-rows, sound-size}
 use Rattle.layout.proofs.Keeping.{few-rows, kept-size}
+use Rattle.nesting.specs.Ready.{Ready}
 use Rattle.reader.specs.declared.Reading.{Reading}
 use Rattle.reader.specs.declared.Reading.the-variants as Both
 use Rattle.reader.specs.declared.cursor.Cursor.{Cursor}
@@ -27,7 +28,7 @@ use Rattle.reader.specs.declared.cursor.Walked.{Walked}
 use Rattle.reader.specs.declared.cursor.Walked.the-variants.{On, Refused}
 use Rattle.reader.specs.Doing.{message, answer, Did, Ask}
 use Rattle.reader.specs.Parts.{claimAt, DidObjects}
-use Rattle.reader.specs.Walking.{Ready, ValueDid}
+use Rattle.reader.specs.Walking.{ValueDid}
 use Rattle.reader.specs.Answers.{lengthsOf, readingOf}
 use Rattle.reader.specs.Passing.{listsOf, afterWalk, start, Walkable, PrimaryDid, Passed}
 use Rattle.reader.proofs.Steps.{did-then, did-halt}

@@ -14,13 +14,13 @@ use Rattle.rules.specs.Bytes.{word}
 use Rattle.rules.specs.Decode as D
 use Rattle.rules.specs.Envelope.{contentOfEightBytes}
 use Rattle.rules.specs.Walk as W
+use Rattle.nesting.specs.declared.Ordinal.{Ordinal}
+use Rattle.nesting.specs.Ordinals.{ordinalIs, halved}
+use Rattle.nesting.proofs.Members.{MembersRise, ordinal-content}
 use Rattle.reader.specs.declared.cursor.Cursor.{Cursor}
 use Rattle.reader.specs.declared.cursor.Walked.{Walked}
 use Rattle.reader.specs.declared.cursor.Walked.the-variants.{On, Refused}
-use Rattle.reader.specs.declared.envelopes.Kept.{Kept}
 use Rattle.reader.specs.Doing.{gaveOne, Did, Ask}
-use Rattle.reader.specs.Opening.{keptOf}
-use Rattle.reader.specs.Contracts.{ContentIs}
 use Rattle.reader.specs.Walking.{here, envelopeAt, ContentDid, EnvelopesDid}
 use Rattle.reader.proofs.Steps.{did-stop, did-one}
 use Rattle.reader.proofs.Giving.{Gave, did-gave, ask-gave}
@@ -75,14 +75,14 @@ module _ (rows members bytes : List ℕ) (handles depth row count at : ℕ) (v o
             let a = envelope-asks in
             rw (g .0, g .1) (turn (rw (zero-word bytes (at + i * 8) 8 (a .inside) (sym l ∙ z), ne-eqb (i + 1) count q) (did-one 0 (omega arith) (a .free) (a .held))))
 
-        module _ {first known : ℕ} (what : Kept) {e : Cursor} {v₁ v″ o″ : List ℕ} {w : Walked} (z : loaded ≡ 0 → ⊥) (f : first ≡ getD rows (row * 4 + 1) 0) (k : known ≡ getD rows (row * 4 + 2) 0)
-            (is : ContentIs members first known (i + 1) what) (g : Gave v′ v₁ d e 1) (did : ContentDid rows members bytes handles depth v₁ v″ o′ o″ (at + i * 8) e row what w) where
+        module _ {first known : ℕ} (what : Ordinal) {e : Cursor} {v₁ v″ o″ : List ℕ} {w : Walked} (z : loaded ≡ 0 → ⊥) (f : first ≡ getD rows (row * 4 + 1) 0) (k : known ≡ getD rows (row * 4 + 2) 0)
+            (m : MembersRise rows members first known) (found : ordinalIs what ≡ halved members (i + 1) first known) (g : Gave v′ v₁ d e 1) (did : ContentDid rows members bytes handles depth v₁ v″ o′ o″ (at + i * 8) e row what w) where
           present : Did (length bytes) handles 8 v′ v″ o′ o″ d w (envelopeAt rows members bytes handles depth row count (i + 1) (at + i * 8) (d .next) (d .handles))
           unfolding D.optionalEnvelope
           present =
               let a = envelope-asks in
-              rw (nonzero-word bytes (at + i * 8) 8 (a .inside) (λ s. z (l ∙ s)), ← f, ← k, ← is rows)
-              (did-gave 8 1 (λ n u. contentOfEightBytes (here rows members bytes handles depth) (W.levels (here rows members bytes handles depth) depth) row (keptOf what) (at + i * 8) n u) g did (omega arith))
+              rw (nonzero-word bytes (at + i * 8) 8 (a .inside) (λ s. z (l ∙ s)), ← f, ← k, ← ordinal-content m (i + 1) what found)
+              (did-gave 8 1 (λ n u. contentOfEightBytes (here rows members bytes handles depth) (W.levels (here rows members bytes handles depth) depth) row (ordinalIs what) (at + i * 8) n u) g did (omega arith))
 
           pub one-present : {f : Cursor} → w ≡ On f → EnvelopesLeft rows members bytes handles depth row count at v v″ o o″ c f (i + 1)
           one-present y = turn (rw y at present)

@@ -20,13 +20,17 @@ use Rattle.rules.specs.Decode.{Decoded, went, stopped, got}
 use Rattle.rules.specs.Records.{isKnown, readIf, unless, readNumber}
 use Rattle.rules.specs.Envelope.{contentOfEightBytes, decodeContent}
 use Rattle.rules.specs.Walk as W
+use Rattle.nesting.specs.declared.Ordinal.{Ordinal}
+use Rattle.nesting.specs.Ordinals.{ordinalIs, halved, Rising, OrdinalFits}
+use Rattle.nesting.proofs.Ordinals.{halved-content}
+use Rattle.nesting.proofs.Members.{MembersRise, ordinal-fits}
 use Rattle.reader.specs.declared.cursor.Cursor.{Cursor}
 use Rattle.reader.specs.declared.cursor.Walked.the-variants.{On, Refused}
-use Rattle.reader.specs.declared.envelopes.Kept.{Kept}
+use Rattle.reader.specs.declared.envelopes.Member.{Member}
 use Rattle.reader.specs.declared.envelopes.Member.the-variants.{Some}
 use Rattle.reader.specs.Doing.{message, Did, Ask}
-use Rattle.reader.specs.Opening.{keptOf, OpensMember, unionAt}
-use Rattle.reader.specs.Contracts.{ContentIs}
+use Rattle.reader.specs.Opening.{OpensMember, unionAt}
+use Rattle.reader.specs.Contracts.{ContentIs, MemberIs}
 use Rattle.reader.proofs.Steps.{did-stop, did-nothing}
 use Rattle.reader.proofs.Giving.{Gave, did-gave, ask-gave}
 use Rattle.reader.proofs.Zeros.{zero-word, nonzero-word}
@@ -90,13 +94,14 @@ present rows members bytes handles depth row at n u content optional flexible (s
     go true = refl
     go false = refl
 
-module _ (rows members bytes values objects : List ℕ) (handles depth row first count form at : ℕ) (c : Cursor) (ordinal : ℕ) (what : Kept) (known : Bool)
+module _ (rows members bytes values objects : List ℕ) (handles depth row first count form at : ℕ) (c : Cursor) (ordinal : ℕ) (what : Ordinal) (known : Bool)
     (ask : Ask (length bytes) handles 16 at c) (small : form ≤ 3) (e : ordinal ≡ word bytes at 8) (n : ordinal ≡ 0 → ⊥)
-    (w : keptOf what ≡ contentOf (typeTable rows members) first count ordinal) (k : known ≡ isKnown (keptOf what)) where
+    (few : first + count ≤ 1024) (rising : Rising members first count) (found : ordinalIs what ≡ halved members ordinal first count) (k : known ≡ isKnown (ordinalIs what)) where
   kept : unionOf rows members bytes handles depth row first count form at c
-      ≡ (if (leb 2 form || known) then D.after (ordinal ∷ []) [] (memberOf rows members bytes handles depth row (keptOf what) (at + 8) (c .next) (c .handles))
+      ≡ (if (leb 2 form || known) then D.after (ordinal ∷ []) [] (memberOf rows members bytes handles depth row (ordinalIs what) (at + 8) (c .next) (c .handles))
       else stopped (fault ordinalUnknown (Byte at)) [] [])
   kept =
+      let w = found ∙ halved-content rows members first count ordinal few rising in
       present rows members bytes handles depth row at (c .next) (c .handles) (contentOf (typeTable rows members) first count) (eqb (form % 2) 1) (eqb (form / 2) 1) ordinal n (sym e)
       ∙ rw (← w, ← k, accepts form known small)
 
@@ -114,11 +119,19 @@ module _ (rows members bytes values objects : List ℕ) (handles depth row first
 
     pub union-member : (envelope ≡ 0 → ⊥)
         → OpensMember (length bytes) handles 16 values values′ objects objects c (unionOf rows members bytes handles depth row first count form at c)
-        (λ what e. contentOfEightBytes (message rows members bytes handles) (W.levels (message rows members bytes handles) depth) row (keptOf what) (at + 8) (e .next) (e .handles)) (Some what d)
+        (λ what e. contentOfEightBytes (message rows members bytes handles) (W.levels (message rows members bytes handles) depth) row (ordinalIs what) (at + 8) (e .next) (e .handles)) (Some what d)
     unfolding D.presentEnvelope
     union-member z =
         rw (kept, not-false (leb 2 form || known) a, nonzero-word bytes (at + 8) 8 (omega arith) (λ w. z (q ∙ w)))
-        (cc, cc, cc, cc, λ v o r p. did-gave 16 ordinal (λ n u. contentOfEightBytes (message rows members bytes handles) (W.levels (message rows members bytes handles) depth) row (keptOf what) (at + 8) n u) g p (omega arith))
+        (cc, cc, cc, cc, λ v o r p. did-gave 16 ordinal (λ n u. contentOfEightBytes (message rows members bytes handles) (W.levels (message rows members bytes handles) depth) row (ordinalIs what) (at + 8) n u) g p (omega arith))
 
-pub member-is : (members : List ℕ) (first count : ℕ) {ordinal : ℕ} (loaded : ℕ) (what : Kept) → ordinal ≡ loaded → ContentIs members first count ordinal what → ContentIs members first count loaded what
-member-is members first count loaded what e w rows = rw (← e) (w rows)
+pub member-is : (members : List ℕ) (first count ordinal loaded : ℕ) (what : Ordinal) → ordinal ≡ loaded → first + count ≤ 1024 → Rising members first count
+    → ordinalIs what ≡ halved members ordinal first count → ContentIs members first count loaded what
+member-is members first count ordinal loaded what e few rising found rows = rw (← e) (found ∙ halved-content rows members first count ordinal few rising)
+
+-- What a union's ordinal stands for is in use.
+pub member-fits : {rows members : List ℕ} {first count : ℕ} → MembersRise rows members first count → (bytes : List ℕ) (at : ℕ) (r : Member) {what : Ordinal} {d : Cursor}
+    → MemberIs bytes members first count at r → r ≡ Some what d → OrdinalFits rows members what
+member-fits {rows} {members} {first} {count} m bytes at r {what} w z =
+    let is : ContentIs members first count (word bytes at 8) what = rw z at w in
+    ordinal-fits m (word bytes at 8) what (is rows)

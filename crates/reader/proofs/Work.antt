@@ -1,17 +1,18 @@
--- Structs and arrays, taken apart: the parts and the fill that are left, in order, whichever of them they belong to.
+-- Structs and arrays, taken apart: the walk of the parts and the fill that are left, in order, and how it leads on.
 -- Assumes nothing.
 use mathlib.Core.List.{List, [], _∷_, _++_}
 use mathlib.Core.Path.{_≡_, refl, sym, _∙_}
-use Prim.Native.Nat.{ℕ, zero, suc, _+_, _-_, _*_, _≤_}
-use native.Mathlib.Nat.{suc-mul, add-assoc, add-zero}
+use Prim.Native.Nat.{ℕ, zero, suc, _+_, _≤_}
+use native.Mathlib.Nat.{add-assoc, add-zero}
 use native.Mathlib.Omega.{arith}
 use Rattle.rules.specs.declared.Fault.{Fault}
 use Rattle.rules.specs.declared.Layout.{Layout}
 use Rattle.rules.specs.Bytes.{part, leadingZeros}
-use Rattle.rules.specs.Sizes.{Field, field, fieldsSize}
+use Rattle.rules.specs.Sizes.{Field, field}
 use Rattle.rules.specs.Decode as D
 use Rattle.rules.specs.Decode.{Message, Decoded, Decoder, went}
 use Rattle.rules.specs.Walk as W
+use Rattle.nesting.proofs.Items.{Item, value, gap, itemsOf, copies, sizeOfItem, sizeOfItems, into-size}
 use Rattle.reader.specs.declared.cursor.Cursor.{Cursor}
 use Rattle.reader.specs.declared.cursor.Walked.the-variants.{On, Refused}
 use Rattle.reader.specs.Doing.{Did, Ask, Leads}
@@ -19,43 +20,21 @@ use Rattle.reader.proofs.Steps.{went-on}
 use Rattle.reader.proofs.Results.{then-then, then-same, after-none}
 use Rattle.reader.proofs.Leading.{leads-on, leads-halt, leads-end}
 
--- A value of a row, or fill.
-pub data Item : Type 0 where
-  value : (row : ℕ) → Item
-  gap : (bytes : ℕ) → Item
-
-unfoldable pub itemsOf : List Field → List Item
-itemsOf [] = []
-itemsOf (field row fill ∷ fields) = value row ∷ gap fill ∷ itemsOf fields
-
--- An array's elements, as fields with no fill.
-unfoldable pub copies : (count row : ℕ) → List Field
-copies zero row = []
-copies (suc count) row = field row 0 ∷ copies count row
-
 module _ (m : Message) (layouts : ℕ → Layout) (inner : ℕ → Decoder) where
-  abbrev pub sizeOfItem : Item → ℕ
-  sizeOfItem (value row) = layouts row .size
-  sizeOfItem (gap bytes) = bytes
-
-  pub sizeOfItems : List Item → ℕ
-  sizeOfItems [] = 0
-  sizeOfItems (i ∷ is) = sizeOfItem i + sizeOfItems is
-
   abbrev pub runItem : Item → Decoder
   runItem (value row) = inner row
   runItem (gap bytes) = D.fill m bytes
 
   pub run : List Item → Decoder
   run [] = D.nothing
-  run (i ∷ is) = D.sequence (sizeOfItem i) (runItem i) (run is)
+  run (i ∷ is) = D.sequence (sizeOfItem layouts i) (runItem i) (run is)
 
   pub run-fields : (fs : List Field) → W.fields m layouts inner fs ≡ run (itemsOf fs)
   unfolding W.fields run itemsOf
   run-fields [] = refl
   run-fields (field row fill ∷ fs) = rw (run-fields fs)
 
-  no-fill : (at n u : ℕ) → D.fill m 0 at n u ≡ went n u [] []
+  pub no-fill : (at n u : ℕ) → D.fill m 0 at n u ≡ went n u [] []
   unfolding D.fill part leadingZeros
   no-fill at n u = refl
 
@@ -67,79 +46,60 @@ module _ (m : Message) (layouts : ℕ → Layout) (inner : ℕ → Decoder) wher
       (λ n₁ u₁. run-copies count row (suc i) (at + layouts row .size) n₁ u₁
       ∙ rw (no-fill (at + layouts row .size) n₁ u₁, add-zero (at + layouts row .size)) (sym (after-none _)))
 
-  pub fields-size : (fs : List Field) → sizeOfItems (itemsOf fs) ≡ fieldsSize layouts fs
-  unfolding fieldsSize sizeOfItems itemsOf
-  fields-size [] = refl
-  fields-size (field row fill ∷ fs) = rw (fields-size fs)
-
-  pub copies-size : (count row : ℕ) → sizeOfItems (itemsOf (copies count row)) ≡ count * layouts row .size
-  unfolding sizeOfItems itemsOf copies
-  copies-size zero row = omega arith
-  copies-size (suc count) row = rw (copies-size count row, suc-mul) (omega arith)
-
   -- One after the other.
-  pub run-append : (is js : List Item) (at n u : ℕ) → run (is ++ js) at n u ≡ D.andThen (run is at n u) (λ n₁ u₁. run js (at + sizeOfItems is) n₁ u₁)
+  pub run-append : (is js : List Item) (at n u : ℕ) → run (is ++ js) at n u ≡ D.andThen (run is at n u) (λ n₁ u₁. run js (at + sizeOfItems layouts is) n₁ u₁)
   unfolding D.sequence run sizeOfItems
   run-append [] js at n u = rw (add-zero at) (sym (after-none (run js at n u)))
   run-append (i ∷ is) js at n u =
-      then-same (runItem i at n u) (λ n₁ u₁. run-append is js (at + sizeOfItem i) n₁ u₁ ∙ rw (add-assoc at (sizeOfItem i) (sizeOfItems is)))
-      ∙ sym (then-then (runItem i at n u) (λ n₁ u₁. run is (at + sizeOfItem i) n₁ u₁) (λ n₂ u₂. run js (at + (sizeOfItem i + sizeOfItems is)) n₂ u₂))
+      then-same (runItem i at n u) (λ n₁ u₁. run-append is js (at + sizeOfItem layouts i) n₁ u₁ ∙ rw (add-assoc at (sizeOfItem layouts i) (sizeOfItems layouts is)))
+      ∙ sym (then-then (runItem i at n u) (λ n₁ u₁. run is (at + sizeOfItem layouts i) n₁ u₁) (λ n₂ u₂. run js (at + (sizeOfItem layouts i + sizeOfItems layouts is)) n₂ u₂))
 
   -- A value that is made of values may as well be taken apart.
-  pub run-into : (row : ℕ) (is rest : List Item) (at n u : ℕ) → inner row at n u ≡ run is at n u → layouts row .size ≡ sizeOfItems is
+  pub run-into : (row : ℕ) (is rest : List Item) (at n u : ℕ) → inner row at n u ≡ run is at n u → layouts row .size ≡ sizeOfItems layouts is
       → run (value row ∷ rest) at n u ≡ run (is ++ rest) at n u
   unfolding D.sequence run
   run-into row is rest at n u e s = rw (e, s) (sym (run-append is rest at n u))
-
-  sizes-append : (is js : List Item) → sizeOfItems (is ++ js) ≡ sizeOfItems is + sizeOfItems js
-  unfolding sizeOfItems
-  sizes-append [] js = omega arith
-  sizes-append (i ∷ is) js = rw (sizes-append is js) (omega arith)
-
-  into-size : (row : ℕ) (is rest : List Item) → layouts row .size ≡ sizeOfItems is → sizeOfItems (value row ∷ rest) ≡ sizeOfItems (is ++ rest)
-  unfolding sizeOfItems
-  into-size row is rest s = rw s (sym (sizes-append is rest))
 
   -- ---- what is left, at a place; the whole began at the cursor `c`
 
   module _ (total handles grow : ℕ) (whole : Decoded) (v o : List ℕ) (c : Cursor) where
     pub record WorkLeft (v′ o′ : List ℕ) (d : Cursor) (is : List Item) (place : ℕ) : Type 0 where
-      pub asks : Ask total handles (sizeOfItems is) place d
-      pub leads : Leads total handles grow (sizeOfItems is) v v′ o o′ c d whole (run is place (d .next) (d .handles))
+      pub asks : Ask total handles (sizeOfItems layouts is) place d
+      pub leads : Leads total handles grow (sizeOfItems layouts is) v v′ o o′ c d whole (run is place (d .next) (d .handles))
 
 module _ {m : Message} {layouts : ℕ → Layout} {inner : ℕ → Decoder} {total handles grow : ℕ} {whole : Decoded} {v o : List ℕ} {c : Cursor} {v′ o′ : List ℕ} {d : Cursor} where
   module _ {i : Item} {is : List Item} {place : ℕ} (w : WorkLeft m layouts inner total handles grow whole v o c v′ o′ d (i ∷ is) place) where
-    pub item-asks : Ask total handles (sizeOfItem m layouts inner i) place d
+    pub item-asks : Ask total handles (sizeOfItem layouts i) place d
     unfolding sizeOfItems
     item-asks = let a = w .asks in record { short = a .short; few = a .few; inside = omega (arith, a .inside); free = a .free; held = a .held; small = omega (arith, a .small) }
 
-    item-leads : Leads total handles grow (sizeOfItems m layouts inner (i ∷ is)) v v′ o o′ c d whole
-        (D.andThen (runItem m layouts inner i place (d .next) (d .handles)) (λ n u. run m layouts inner is (place + sizeOfItem m layouts inner i) n u))
+    item-leads : Leads total handles grow (sizeOfItems layouts (i ∷ is)) v v′ o o′ c d whole
+        (D.andThen (runItem m layouts inner i place (d .next) (d .handles)) (λ n u. run m layouts inner is (place + sizeOfItem layouts i) n u))
     unfolding run D.sequence
     item-leads = w .leads
 
-    pub item-on : {v″ o″ : List ℕ} {e : Cursor} {g : ℕ} → Did total handles g v′ v″ o′ o″ d (On e) (runItem m layouts inner i place (d .next) (d .handles)) → g ≤ sizeOfItem m layouts inner i
-        → WorkLeft m layouts inner total handles grow whole v o c v″ o″ e is (place + sizeOfItem m layouts inner i)
+    pub item-on : {v″ o″ : List ℕ} {e : Cursor} {g : ℕ} → Did total handles g v′ v″ o′ o″ d (On e) (runItem m layouts inner i place (d .next) (d .handles)) → g ≤ sizeOfItem layouts i
+        → WorkLeft m layouts inner total handles grow whole v o c v″ o″ e is (place + sizeOfItem layouts i)
     unfolding sizeOfItems
     item-on q l =
         let a = w .asks in
         let x = went-on q refl in
         record {
           asks = record { short = a .short; few = a .few; inside = omega (arith, a .inside); free = x .0; held = x .1; small = omega (arith, a .small, x .2) };
-          leads = leads-on (sizeOfItems m layouts inner is) (λ n u. run m layouts inner is (place + sizeOfItem m layouts inner i) n u) item-leads q (omega (arith, x .2));
+          leads = leads-on (sizeOfItems layouts is) (λ n u. run m layouts inner is (place + sizeOfItem layouts i) n u) item-leads q (omega (arith, x .2));
         }
 
     pub item-refused : {v″ o″ : List ℕ} {f : Fault} {g : ℕ} → Did total handles g v′ v″ o′ o″ d (Refused f) (runItem m layouts inner i place (d .next) (d .handles)) → Did total handles grow v v″ o o″ c (Refused f) whole
-    item-refused q = leads-halt (λ n u. run m layouts inner is (place + sizeOfItem m layouts inner i) n u) item-leads q
+    item-refused q = leads-halt (λ n u. run m layouts inner is (place + sizeOfItem layouts i) n u) item-leads q
 
   -- The value that is next, taken apart.
   pub work-into : {row : ℕ} {rest : List Item} {place : ℕ} (is : List Item) → WorkLeft m layouts inner total handles grow whole v o c v′ o′ d (value row ∷ rest) place
-      → ((n u : ℕ) → inner row place n u ≡ run m layouts inner is place n u) → layouts row .size ≡ sizeOfItems m layouts inner is
+      → ((n u : ℕ) → inner row place n u ≡ run m layouts inner is place n u) → layouts row .size ≡ sizeOfItems layouts is
       → WorkLeft m layouts inner total handles grow whole v o c v′ o′ d (is ++ rest) place
   work-into {row} {rest} {place} is w e s =
       record {
-        asks = rw (into-size m layouts inner row is rest s) at (w .asks);
-        leads = rw (into-size m layouts inner row is rest s, run-into m layouts inner row is rest place (d .next) (d .handles) (e (d .next) (d .handles)) s) at (w .leads);
+        asks = rw (into-size layouts row is rest s) at (w .asks);
+        leads = rw (into-size layouts row is rest s, run-into m layouts inner row is rest place (d .next) (d .handles) (e (d .next) (d .handles)) s) at (w .leads);
       }
 
   pub work-end : {place : ℕ} → WorkLeft m layouts inner total handles grow whole v o c v′ o′ d [] place → Did total handles grow v v′ o o′ c (On d) whole
@@ -148,6 +108,6 @@ module _ {m : Message} {layouts : ℕ → Layout} {inner : ℕ → Decoder} {tot
 
 -- The value that is all, taken apart.
 pub work-start : (m : Message) (layouts : ℕ → Layout) (inner : ℕ → Decoder) (total handles : ℕ) (v o : List ℕ) (c : Cursor) (row : ℕ) (is : List Item) (place : ℕ)
-    → Ask total handles (layouts row .size) place c → ((n u : ℕ) → inner row place n u ≡ run m layouts inner is place n u) → layouts row .size ≡ sizeOfItems m layouts inner is
+    → Ask total handles (layouts row .size) place c → ((n u : ℕ) → inner row place n u ≡ run m layouts inner is place n u) → layouts row .size ≡ sizeOfItems layouts is
     → WorkLeft m layouts inner total handles (layouts row .size) (inner row place (c .next) (c .handles)) v o c v o c is place
 work-start m layouts inner total handles v o c row is place a e s = record { asks = rw s at a; leads = λ w x r q. rw (← (e (c .next) (c .handles)), ← s) at q }

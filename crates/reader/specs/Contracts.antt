@@ -2,9 +2,9 @@
 -- Assumes nothing.
 use mathlib.Core.List.{List}
 use mathlib.Core.Path.{_≡_}
-use Prim.Native.Nat.{ℕ, _+_, _-_, _*_, _/_, _%_, _≤_, _<_}
+use Prim.Native.Nat.{ℕ, _+_, _-_, _*_, _/_, _%_, _≤_}
 use lib.Dec.{eqb}
-use lib.ListN.{length, getD}
+use lib.ListN.{length}
 use Rattle.rules.specs.Bytes.{word}
 use Rattle.rules.specs.TypeTable.{typeTable, Content, known, contentOf}
 use Rattle.rules.specs.Sizes.{sizeOf}
@@ -14,15 +14,16 @@ use Rattle.rules.specs.Decode.{Decoder}
 use Rattle.rules.specs.Records.{readCount}
 use Rattle.rules.specs.Envelope.{unknownInLine, unknownOutOfLine, unknownEnvelope, contentOfEightBytes}
 use Rattle.rules.specs.Walk as W
+use Rattle.nesting.specs.declared.Ordinal.{Ordinal}
+use Rattle.nesting.specs.Ordinals.{ordinalIs}
 use Rattle.reader.specs.declared.cursor.Cursor.{Cursor}
 use Rattle.reader.specs.declared.cursor.Walked.{Walked}
 use Rattle.reader.specs.declared.records.Count.{Count}
 use Rattle.reader.specs.declared.records.Opened.{Opened}
-use Rattle.reader.specs.declared.envelopes.Kept.{Kept}
 use Rattle.reader.specs.declared.envelopes.Member.{Member}
 use Rattle.reader.specs.declared.envelopes.Member.the-variants.{None, Some, Bad}
 use Rattle.reader.specs.Doing.{message, Did}
-use Rattle.reader.specs.Opening.{countOf, keptOf, Opens, OpensMember, countedAt, vectorAt, stringAt, boxAt, tableAt, unionAt, elementsOf, valueOf, envelopesOf, rawWords, sealedAt, payloadOf}
+use Rattle.reader.specs.Opening.{countOf, Opens, OpensMember, countedAt, vectorAt, stringAt, boxAt, tableAt, unionAt, elementsOf, valueOf, envelopesOf, rawWords, sealedAt, payloadOf}
 
 abbrev pub CountAt : (bytes : List ℕ) (optional largest at : ℕ) → Count → Type 0
 CountAt bytes optional largest at r =
@@ -98,7 +99,7 @@ UnionOpens bytes handles depth values values′ at c members row first count for
     (rows objects : List ℕ)
     → OpensMember (length bytes) handles 16 values values′ objects objects c
     (unionAt (message rows members bytes handles) depth row (contentOf (typeTable rows members) first count) (eqb (form % 2) 1) (eqb (form / 2) 1) at (c .next) (c .handles))
-    (λ what e. contentOfEightBytes (message rows members bytes handles) (W.levels (message rows members bytes handles) depth) row (keptOf what) (at + 8) (e .next) (e .handles)) r
+    (λ what e. contentOfEightBytes (message rows members bytes handles) (W.levels (message rows members bytes handles) depth) row (ordinalIs what) (at + 8) (e .next) (e .handles)) r
 
 -- A known payload's envelope, before its value. The values are left alone.
 abbrev pub KnownOpens : (bytes : List ℕ) (handles depth : ℕ) (objects objects′ : List ℕ) (at : ℕ) (c : Cursor) (payload size : ℕ) → Opened → Type 0
@@ -134,12 +135,9 @@ SealDid bytes size at next used c r =
     (rows members values objects : List ℕ) (handles : ℕ) → c .next ≤ length bytes → c .handles ≤ handles
     → Did (length bytes) handles 0 values values objects objects c r (sealedAt (message rows members bytes handles) size at next used (c .next) (c .handles))
 
--- The ordinals of so many members rise strictly, as in a sound table or union.
-abbrev pub Rising : (members : List ℕ) (first count : ℕ) → Type 0
-Rising members first count = (i j : ℕ) → i < j → j < count → getD members ((first + i) * 2) 0 < getD members ((first + j) * 2) 0
-
-abbrev pub ContentIs : (members : List ℕ) (first count ordinal : ℕ) → Kept → Type 0
-ContentIs members first count ordinal r = (rows : List ℕ) → keptOf r ≡ contentOf (typeTable rows members) first count ordinal
+-- What an ordinal stands for, by the members alone.
+abbrev pub ContentIs : (members : List ℕ) (first count ordinal : ℕ) → Ordinal → Type 0
+ContentIs members first count ordinal r = (rows : List ℕ) → ordinalIs r ≡ contentOf (typeTable rows members) first count ordinal
 
 -- The member that a union's ordinal stands for.
 abbrev pub MemberIs : (bytes members : List ℕ) (first count at : ℕ) → Member → Type 0

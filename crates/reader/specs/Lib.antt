@@ -1,5 +1,6 @@
 pub mod Doing
 pub mod Parts
+pub mod Planning
 pub mod Opening
 pub mod Contracts
 pub mod Walking

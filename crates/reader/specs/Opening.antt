@@ -9,12 +9,13 @@ use Rattle.rules.specs.declared.Place.the-variants.{Byte}
 use Rattle.rules.specs.Refusals.{if_then_else_, fault, envelopeNumberWrong}
 use Rattle.rules.specs.Bytes.{ones64}
 use Rattle.rules.specs.Trace.{vectorObject, unknownContent, unknownObject}
-use Rattle.rules.specs.TypeTable.{Content, known, unknown, eightByteEnvelopes}
+use Rattle.rules.specs.TypeTable.{Content, eightByteEnvelopes}
 use Rattle.rules.specs.Decode as D
 use Rattle.rules.specs.Decode.{Message, Decoded, went, Decoder, ReadRecord, got, wrong}
 use Rattle.rules.specs.Records.{ordinalPattern, readNumber, readPresence, readCount, readTable}
 use Rattle.rules.specs.Envelope.{decodeWord, lowWord, handleNumber, decodeContent}
 use Rattle.rules.specs.Walk as W
+use Rattle.nesting.specs.declared.Ordinal.{Ordinal}
 use Rattle.reader.specs.declared.cursor.Cursor.{Cursor}
 use Rattle.reader.specs.declared.cursor.Walked.{Walked}
 use Rattle.reader.specs.declared.cursor.Walked.the-variants.{On}
@@ -23,8 +24,6 @@ use Rattle.reader.specs.declared.records.Count.the-variants.{Absent, Pre
 use Rattle.reader.specs.declared.records.Opening.{Opening}
 use Rattle.reader.specs.declared.records.Opened.{Opened}
 use Rattle.reader.specs.declared.records.Opened.the-variants.{Closed, Open, Refused}
-use Rattle.reader.specs.declared.envelopes.Kept.{Kept}
-use Rattle.reader.specs.declared.envelopes.Kept.the-variants.{Known, Unknown}
 use Rattle.reader.specs.declared.envelopes.Member.{Member}
 use Rattle.reader.specs.declared.envelopes.Member.the-variants.{None, Some, Bad}
 use Rattle.reader.specs.Doing.{Rises, Did, Ask, Leads}
@@ -35,10 +34,6 @@ abbrev pub countOf : Count → ReadRecord
 countOf Absent = got 0
 countOf (Present count) = got (suc count)
 countOf (Wrong f) = wrong f
-
-abbrev pub keptOf : Kept → Content
-keptOf (Known row) = known row
-keptOf Unknown = unknown
 
 -- Done already, or refused; or an object is open, and what is left of the whole is `left`, which takes `need` bytes of it.
 abbrev pub Opens : (total handles grow : ℕ) (values values′ objects objects′ : List ℕ) (c : Cursor) (whole : Decoded)
@@ -63,7 +58,7 @@ Reaches depth (Open x) = 0 < depth
 
 -- The same of a union's member, whose envelope is left.
 abbrev pub OpensMember : (total handles grow : ℕ) (values values′ objects objects′ : List ℕ) (c : Cursor) (whole : Decoded)
-    → (left : Kept → Cursor → Decoded) → Member → Type 0
+    → (left : Ordinal → Cursor → Decoded) → Member → Type 0
 OpensMember total handles grow values values′ objects objects′ c whole left (None e) = Did total handles grow values values′ objects objects′ c (On e) whole
 OpensMember total handles grow values values′ objects objects′ c whole left (Bad f) = Did total handles grow values values′ objects objects′ c (Walked.Refused f) whole
 OpensMember total handles grow values values′ objects objects′ c whole left (Some what e) =

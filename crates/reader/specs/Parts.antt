@@ -1,13 +1,13 @@
 -- The parts of the walk that one function each does, in the rules' own terms.
 -- Assumes nothing.
-use mathlib.Core.Bool.{Bool, _||_}
+use mathlib.Core.Bool.{Bool}
 use mathlib.Core.List.{List, [], _∷_}
-use Prim.Native.Nat.{ℕ, _+_, _-_, _≤_}
-use lib.Dec.{leb, eqb}
+use Prim.Native.Nat.{ℕ, zero, suc, _+_, _-_, _*_, _≤_}
+use lib.Dec.{leb}
 use lib.ListN.{length}
 use Rattle.rules.specs.declared.Place.the-variants.{Byte}
 use Rattle.rules.specs.Refusals.{fault, objectDoesNotFit}
-use Rattle.rules.specs.Bytes.{padded, ones32}
+use Rattle.rules.specs.Bytes.{word, padded, ones32}
 use Rattle.rules.specs.Trace.{claimed}
 use Rattle.rules.specs.Decode as D
 use Rattle.rules.specs.Decode.{Message, went, Decoder}
@@ -17,10 +17,6 @@ use Rattle.rules.specs.Walk as W
 use Rattle.reader.specs.declared.cursor.Cursor.{Cursor}
 use Rattle.reader.specs.declared.cursor.Walked.{Walked}
 use Rattle.reader.specs.Doing.{message, Did}
-
--- A number's width in a sound row.
-abbrev pub widthAllowed : ℕ → Bool
-widthAllowed width = eqb width 1 || eqb width 2 || eqb width 4 || eqb width 8
 
 -- ---- in line
 
@@ -32,6 +28,16 @@ handleAt optional m = D.recordThen 4 (readPresence m 4 ones32 optional) (W.after
 
 unfoldable pub numbersAt : (width count : ℕ) → Message → Decoder
 numbersAt width count m = D.elements width (λ i. decodeWord m width) 0 count
+
+-- The numbers of one width that stand in line from a place on.
+unfoldable pub wordsFrom : (bytes : List ℕ) (width at count : ℕ) → List ℕ
+wordsFrom bytes width at zero = []
+wordsFrom bytes width at (suc count) = word bytes at width ∷ wordsFrom bytes width (at + width) count
+
+-- They lie within the bytes, and there is room for all of them from an index on.
+pub record Whole (bytes values : List ℕ) (width count at first : ℕ) : Type 0 where
+  pub there : at + count * width ≤ length bytes
+  pub room : first + count ≤ length values
 
 -- ---- objects
 

@@ -1,6 +1,5 @@
 -- What the functions of pass.rt promise.
 -- Assumes nothing.
-use mathlib.Core.Bool.{Bool}
 use mathlib.Core.List.{List}
 use mathlib.Core.Path.{_≡_}
 use Prim.Native.Nat.{ℕ, _≤_}
@@ -15,22 +14,18 @@ use Rattle.rules.specs.Trace.{objectList}
 use Rattle.rules.specs.Decode.{Message, traceOf}
 use Rattle.rules.specs.Answers as A
 use Rattle.rules.specs.Answers.{Lists, walk, finished, requireLength, judged}
+use Rattle.nesting.specs.Ready.{Ready}
 use Rattle.reader.specs.declared.Verdict.{Verdict}
 use Rattle.reader.specs.declared.Lengths.{Lengths}
 use Rattle.reader.specs.declared.Reading.{Reading}
 use Rattle.reader.specs.declared.cursor.Cursor.{Cursor}
 use Rattle.reader.specs.declared.cursor.Walked.{Walked}
 use Rattle.reader.specs.Doing.{message, valuesOf, Did}
-use Rattle.reader.specs.Walking.{Ready}
 use Rattle.reader.specs.Answers.{verdictOf, readingOf, lengthsOf}
 
 -- The lists of a message that is accepted.
 abbrev pub listsOf : Answer A.Reading → Answer Lists
 listsOf answer = andThen answer (λ reading. accepted (record { values = reading .values; objects = objectList (reading .trace) }))
-
--- A root is allowed by the rows alone.
-abbrev pub RootIs : (rows : List ℕ) (root : ℕ) → Bool → Type 0
-RootIs rows root r = (members : List ℕ) → r ≡ rootAllowed (typeTable rows members) root
 
 -- 2, 3 and 4, after the verdict on the type table.
 abbrev pub BeforeWalk : (sound : Answer (Unit {0})) (rows : List ℕ) (root length handles : ℕ) → Verdict → Type 0

@@ -4,9 +4,10 @@ ghost use Prim.Native.Nat.{_+_, _≤_, _<_};
 ghost use lib.ListN.{length};
 ghost use Rattle.reader.specs.Doing.{Ask};
 ghost use Rattle.rules.specs.Records.{isKnown};
-ghost use Rattle.reader.specs.Opening.{keptOf, Reaches, handlesSealed};
+ghost use Rattle.nesting.specs.Ordinals.{ordinalIs, Rising};
+ghost use Rattle.reader.specs.Opening.{Reaches, handlesSealed};
 ghost use Rattle.reader.specs.Parts.{DidNeither};
-ghost use Rattle.reader.specs.Contracts.{UnionOpens, MemberIs, Rising, ContentIs, UnknownDid, UnknownInLineDid, UnknownOutOfLineDid, RawWordsDid, TakenDid, KnownOpens, SealDid};
+ghost use Rattle.reader.specs.Contracts.{UnionOpens, MemberIs, UnknownDid, UnknownInLineDid, UnknownOutOfLineDid, RawWordsDid, TakenDid, KnownOpens, SealDid};
 use crate::claims::claim;
 use crate::cursor::Cursor;
 use crate::cursor::Walked;
@@ -17,18 +18,13 @@ use crate::records::Opened;
 use crate::records::Opening;
 use crate::records::deeper;
 use crate::scalars::numbers;
+use nesting::Ordinal;
 use rules::Fault;
-
-// What an ordinal stands for: a member's row, or unknown content.
-pub enum Kept {
-    Known(usize),
-    Unknown,
-}
 
 // What a union's ordinal says: no member, one whose envelope follows, or a refusal.
 pub enum Member {
     None(Cursor),
-    Some(Kept, Cursor),
+    Some(Ordinal, Cursor),
     Bad(Fault),
 }
 
@@ -61,7 +57,7 @@ pub fn union_member(
         }
         return Member::Bad(fault_at(11, at));
     }
-    let what = content_of(members, first, count, ordinal);
+    let what = nesting::ordinal_of(members, first, count, ordinal);
     let accepted = (2 <= form) | is_known(what);
     if !accepted {
         return Member::Bad(fault_at(17, at));
@@ -73,35 +69,13 @@ pub fn union_member(
     Member::Some(what, d)
 }
 
-fn is_known(what: Kept) -> bool
-    ensures { λ r. ⌜ r ≡ isKnown (keptOf what) ⌝ }
+fn is_known(what: Ordinal) -> bool
+    ensures { λ r. ⌜ r ≡ isKnown (ordinalIs what) ⌝ }
 {
     match what {
-        Kept::Known(_) => true,
-        Kept::Unknown => false,
+        Ordinal::Known(_) => true,
+        Ordinal::Unknown => false,
     }
-}
-
-// The member that has an ordinal, among members whose ordinals rise: by halves, so that a long table costs no more than a short one.
-pub fn content_of(members: &[u32], first: usize, count: usize, ordinal: u64) -> Kept
-    requires { ⌜ (first + count ≤ 1024) × Rising (now members) first count ⌝ }
-    ensures { λ r. ⌜ ContentIs (now (members .entry)) first count ordinal r ⌝ }
-{
-    let mut low = first;
-    let mut high = first + count;
-    while low < high {
-        let middle = (low + high) / 2;
-        let here = words::number_at(members, middle * 2) as u64;
-        if here == ordinal {
-            return Kept::Known(words::number_at(members, middle * 2 + 1) as usize);
-        }
-        if here < ordinal {
-            low = middle + 1;
-        } else {
-            high = middle;
-        }
-    }
-    Kept::Unknown
 }
 
 // An envelope with content of an unknown ordinal: 15, 5, out of line 6, 14; its content is taken raw.

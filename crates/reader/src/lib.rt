@@ -2,8 +2,8 @@
 mod claims;
 mod cursor;
 mod envelopes;
-mod nesting;
 mod pass;
+mod planned;
 mod records;
 mod scalars;
 mod walk;
@@ -58,9 +58,17 @@ fn room_too_small(needed: usize) -> Fault
 pub fn check(rows: &[u32], members: &[u32], root: u32, message: &[u8], handles: u64) -> Verdict
     ensures { λ r. ⌜ verdictOf r ≡ Rules.check (Doing.message (now (rows .entry)) (now (members .entry)) (now (message .entry)) handles) root ⌝ }
 {
-    let judged = judge(rows, members, root, message, handles);
-    let answer = judged.answer;
-    match answer {
+    let mut sizes = [0u32; 256];
+    let mut alignments = [0u32; 256];
+    match judge(
+        rows,
+        members,
+        &mut sizes,
+        &mut alignments,
+        root,
+        message,
+        handles,
+    ) {
         Reading::Refused(f) => Verdict::Refused(f),
         Reading::Accepted(_) => Verdict::Accepted,
     }
@@ -79,11 +87,17 @@ pub fn read_values(
     ensures answer { λ r. ⌜ givenOf r ≡ lengthOf (Rules.readValues (Doing.message (now (rows .entry)) (now (members .entry)) (now (message .entry)) handles) root (length (now (values .entry)))) ⌝ }
     ensures list { λ _. ⌜ now (values .exit) ≡ lentAfter (Rules.readValues (Doing.message (now (rows .entry)) (now (members .entry)) (now (message .entry)) handles) root (length (now (values .entry)))) (now (values .entry)) ⌝ }
 {
-    let judged = judge(rows, members, root, message, handles);
-    let answer = judged.answer;
-    let sizes = judged.sizes;
-    let alignments = judged.alignments;
-    match answer {
+    let mut sizes = [0u32; 256];
+    let mut alignments = [0u32; 256];
+    match judge(
+        rows,
+        members,
+        &mut sizes,
+        &mut alignments,
+        root,
+        message,
+        handles,
+    ) {
         Reading::Refused(f) => Given::Refused(f),
         Reading::Accepted(needed) => {
             if values.len() < needed.values {
@@ -118,11 +132,17 @@ pub fn read_objects(
     ensures answer { λ r. ⌜ givenOf r ≡ lengthOf (Rules.readObjects (Doing.message (now (rows .entry)) (now (members .entry)) (now (message .entry)) handles) root (length (now (objects .entry)))) ⌝ }
     ensures list { λ _. ⌜ now (objects .exit) ≡ lentAfter (Rules.readObjects (Doing.message (now (rows .entry)) (now (members .entry)) (now (message .entry)) handles) root (length (now (objects .entry)))) (now (objects .entry)) ⌝ }
 {
-    let judged = judge(rows, members, root, message, handles);
-    let answer = judged.answer;
-    let sizes = judged.sizes;
-    let alignments = judged.alignments;
-    match answer {
+    let mut sizes = [0u32; 256];
+    let mut alignments = [0u32; 256];
+    match judge(
+        rows,
+        members,
+        &mut sizes,
+        &mut alignments,
+        root,
+        message,
+        handles,
+    ) {
         Reading::Refused(f) => Given::Refused(f),
         Reading::Accepted(needed) => {
             if objects.len() < needed.objects {
@@ -159,11 +179,17 @@ pub fn read(
     ensures values { λ _. ⌜ now (values .exit) ≡ lentAfter (valuesIn (Rules.read (Doing.message (now (rows .entry)) (now (members .entry)) (now (message .entry)) handles) root (length (now (values .entry))) (length (now (objects .entry))))) (now (values .entry)) ⌝ }
     ensures objects { λ _. ⌜ now (objects .exit) ≡ lentAfter (objectsIn (Rules.read (Doing.message (now (rows .entry)) (now (members .entry)) (now (message .entry)) handles) root (length (now (values .entry))) (length (now (objects .entry))))) (now (objects .entry)) ⌝ }
 {
-    let judged = judge(rows, members, root, message, handles);
-    let answer = judged.answer;
-    let sizes = judged.sizes;
-    let alignments = judged.alignments;
-    match answer {
+    let mut sizes = [0u32; 256];
+    let mut alignments = [0u32; 256];
+    match judge(
+        rows,
+        members,
+        &mut sizes,
+        &mut alignments,
+        root,
+        message,
+        handles,
+    ) {
         Reading::Refused(f) => Reading::Refused(f),
         Reading::Accepted(lengths) => {
             if objects.len() < lengths.objects {

@@ -6,7 +6,7 @@ ghost use Rattle.layout.specs.Answers as Layout;
 ghost use Rattle.layout.specs.Answers.{keptSizes, keptAlignments};
 ghost use Rattle.reader.specs.Doing.{message};
 ghost use Rattle.reader.specs.Answers.{readingOf};
-ghost use Rattle.reader.specs.Passing.{RootIs, BeforeWalk, Walkable, PrimaryDid, afterWalk, Passed, judgedLengths};
+ghost use Rattle.reader.specs.Passing.{BeforeWalk, Walkable, PrimaryDid, afterWalk, Passed, judgedLengths};
 use crate::Lengths;
 use crate::Reading;
 use crate::Verdict;
@@ -17,24 +17,9 @@ use crate::cursor::fault_at;
 use crate::walk::value;
 use layout::Soundness;
 use layout::prepare;
+use layout::root_allowed;
 use rules::Fault;
 use rules::Place;
-
-// What is answered of a message, with the sizes and the alignments that its type table was walked by.
-pub struct Judged {
-    pub answer: Reading,
-    pub sizes: [u32; 256],
-    pub alignments: [u32; 256],
-}
-
-// A root is a struct, a table or a union.
-fn root_allowed(rows: &[u32], root: u32) -> bool
-    ensures { λ r. ⌜ RootIs (now (rows .entry)) root r ⌝ }
-{
-    let row = root as usize;
-    let kind = words::number_at(rows, row * 4);
-    (row < rows.len() / 4) & ((kind == 7) | (kind == 9) | (kind == 10))
-}
 
 // Before the walk: 1, 2, 3, 4.
 fn before(verdict: Soundness, rows: &[u32], root: u32, length: usize, handles: u64) -> Verdict
@@ -153,39 +138,35 @@ pub fn pass(
     }
 }
 
-// Every test of the checker, by a walk that stores nothing.
-pub fn judge(rows: &[u32], members: &[u32], root: u32, bytes: &[u8], handles: u64) -> Judged
-    ensures answer { λ r. ⌜ readingOf (r .answer) ≡ judgedLengths (message (now (rows .entry)) (now (members .entry)) (now (bytes .entry)) handles) root ⌝ }
-    ensures sizes { λ r. ⌜ r .sizes ≡ keptSizes (typeTable (now (rows .entry)) (now (members .entry))) ⌝ }
-    ensures alignments { λ r. ⌜ r .alignments ≡ keptAlignments (typeTable (now (rows .entry)) (now (members .entry))) ⌝ }
+// Every test of the checker, by a walk that stores nothing. The arrays lent get the sizes and the alignments that it goes by.
+pub fn judge(
+    rows: &[u32],
+    members: &[u32],
+    sizes: &mut [u32; 256],
+    alignments: &mut [u32; 256],
+    root: u32,
+    bytes: &[u8],
+    handles: u64,
+) -> Reading
+    ensures answer { λ r. ⌜ readingOf r ≡ judgedLengths (message (now (rows .entry)) (now (members .entry)) (now (bytes .entry)) handles) root ⌝ }
+    ensures sizes { λ _. ⌜ now (sizes .exit) ≡ keptSizes (typeTable (now (rows .entry)) (now (members .entry))) ⌝ }
+    ensures alignments { λ _. ⌜ now (alignments .exit) ≡ keptAlignments (typeTable (now (rows .entry)) (now (members .entry))) ⌝ }
 {
-    let prepared = prepare(rows, members);
-    let verdict = prepared.verdict;
-    let sizes = prepared.sizes;
-    let alignments = prepared.alignments;
+    let verdict = prepare(rows, members, sizes, alignments);
     if let Verdict::Refused(f) = before(verdict, rows, root, bytes.len(), handles) {
-        return Judged {
-            answer: Reading::Refused(f),
-            sizes,
-            alignments,
-        };
+        return Reading::Refused(f);
     }
     let mut no_values = [0u64; 0];
     let mut no_objects = [0u32; 0];
-    let answer = pass(
+    pass(
         rows,
         members,
-        &sizes,
-        &alignments,
+        sizes,
+        alignments,
         root,
         bytes,
         handles,
         &mut no_values,
         &mut no_objects,
-    );
-    Judged {
-        answer,
-        sizes,
-        alignments,
-    }
+    )
 }

@@ -3,9 +3,12 @@ ghost use mathlib.Core.Path.{_≡_};
 ghost use mathlib.Core.Bool.{true};
 ghost use Prim.Native.Nat.{_+_, _*_, _≤_, _<_};
 ghost use lib.Dec.{eqb};
+ghost use lib.ListN.{length};
+ghost use lib.Seq.{sets};
 ghost use Rattle.rules.specs.Bytes.{word};
 ghost use Rattle.rules.specs.Envelope.{decodeWord};
-ghost use Rattle.reader.specs.Parts.{widthAllowed, boolAt, handleAt, numbersAt, DidValues, DidHandles};
+ghost use Rattle.nesting.specs.Ready.{widthAllowed};
+ghost use Rattle.reader.specs.Parts.{boolAt, handleAt, numbersAt, wordsFrom, Whole, DidValues, DidHandles};
 use crate::cursor::Cursor;
 use crate::cursor::Walked;
 use crate::cursor::gave;
@@ -106,6 +109,39 @@ pub fn numbers(
     if values.len() <= first {
         return done;
     }
+    store_numbers(bytes, values, width, count, at, first);
+    done
+}
+
+// Numbers stored from an index on: bytes all at once where there is room for them and they are there.
+fn store_numbers(
+    bytes: &[u8],
+    values: &mut [u64],
+    width: u32,
+    count: usize,
+    at: usize,
+    first: usize,
+)
+    requires { ⌜ (widthAllowed width ≡ true) × (at + count * width ≤ 65536) × (first < 4294967296) ⌝ }
+    ensures { λ _. ⌜ now (values .exit) ≡ sets (now (values .entry)) first (wordsFrom (now (bytes .entry)) width at count) ⌝ }
+{
+    if width != 1 {
+        store_each(bytes, values, width, count, at, first);
+    } else if values.len() < first + count {
+        store_each(bytes, values, width, count, at, first);
+    } else if bytes.len() < at + count {
+        store_each(bytes, values, width, count, at, first);
+    } else {
+        store_bytes(bytes, values, count, at, first);
+    }
+}
+
+// Each where there is room.
+fn store_each(bytes: &[u8], values: &mut [u64], width: u32, count: usize, at: usize, first: usize)
+    requires { ⌜ (widthAllowed width ≡ true) × (at + count * width ≤ 65536) × (first < 4294967296) ⌝ }
+    ensures { λ _. ⌜ now (values .exit) ≡ sets (now (values .entry)) first (wordsFrom (now (bytes .entry)) width at count) ⌝ }
+{
+    let end = first + count;
     let mut i = first;
     let mut p = at;
     while i < end {
@@ -114,5 +150,19 @@ pub fn numbers(
         i += 1;
         p += width as usize;
     }
-    done
+}
+
+// A loop with no test in it, so that it is compiled to vector instructions.
+fn store_bytes(bytes: &[u8], values: &mut [u64], count: usize, at: usize, first: usize)
+    requires { ⌜ Whole (now bytes) (now values) 1 count at first ⌝ }
+    ensures { λ _. ⌜ now (values .exit) ≡ sets (now (values .entry)) first (wordsFrom (now (bytes .entry)) 1 at count) ⌝ }
+{
+    let end = first + count;
+    let mut i = first;
+    let mut p = at;
+    while i < end {
+        values[i] = bytes[p] as u64;
+        i += 1;
+        p += 1;
+    }
 }

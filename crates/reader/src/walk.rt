@@ -2,29 +2,26 @@
 // in line; whatever stands out of line is one level down.
 ghost use mathlib.Core.Bool.{true};
 ghost use mathlib.Core.Path.{_≡_};
-ghost use Prim.Native.Nat.{_*_, _≤_, _<_};
+ghost use Prim.Native.Nat.{_*_, _<_};
 ghost use lib.ListN.{length};
 ghost use Rattle.rules.specs.TypeTable.{typeTable, kindAt};
 ghost use Rattle.rules.specs.Sizes.{sizeOf};
 ghost use Rattle.reader.specs.Doing.{Ask};
-ghost use Rattle.reader.specs.Walking.{Ready, Outside, KeptFits, hasParts, ValueDid, ElementsDid, EnvelopesDid, ContentDid};
+ghost use Rattle.nesting.specs.Nesting.{hasParts};
+ghost use Rattle.nesting.specs.Ordinals.{OrdinalFits};
+ghost use Rattle.nesting.specs.Ready.{Ready, Outside};
+ghost use Rattle.reader.specs.Walking.{ValueDid, ElementsDid, EnvelopesDid, ContentDid};
 use crate::claims::fill_at;
 use crate::cursor::Cursor;
 use crate::cursor::Walked;
 use crate::cursor::gave;
 use crate::cursor::refused;
-use crate::envelopes::Kept;
 use crate::envelopes::Member;
-use crate::envelopes::content_of;
 use crate::envelopes::known_opened;
 use crate::envelopes::sealed;
 use crate::envelopes::union_member;
 use crate::envelopes::unknown_content;
-use crate::nesting::Level;
-use crate::nesting::NESTED;
-use crate::nesting::Step;
-use crate::nesting::has_parts;
-use crate::nesting::next_step;
+use crate::planned::planned;
 use crate::records::Opened;
 use crate::records::box_opened;
 use crate::records::string;
@@ -34,6 +31,10 @@ use crate::scalars::boolean;
 use crate::scalars::handle;
 use crate::scalars::number;
 use crate::scalars::numbers;
+use nesting::Level;
+use nesting::NESTED;
+use nesting::Ordinal;
+use nesting::Step;
 
 // The value of a row at a place.
 pub fn value(
@@ -66,7 +67,7 @@ pub fn value(
         return handle(bytes, held, values, a, at, c);
     }
     if (kind == 4) | (kind == 7) {
-        if has_parts(rows, row) {
+        if nesting::has_parts(rows, row) {
             return composite(
                 rows,
                 members,
@@ -147,6 +148,10 @@ fn elements(
         return Walked::On(numbers(bytes, values, width, count, at, c));
     }
     let size = words::number_at(sizes, row) as usize;
+    let plan = nesting::plan_of(rows, members, alignments, row);
+    if 0 < plan.count {
+        return planned(bytes, values, plan, size, count, at, c);
+    }
     let mut d = c;
     let mut place = at;
     let mut left = count;
@@ -208,7 +213,7 @@ fn composite(
     let mut place = at;
     let mut d = c;
     loop {
-        match next_step(rows, members, alignments, level, due, place, around) {
+        match nesting::next_step(rows, members, alignments, level, due, place, around) {
             Step::Fill(next) => match fill_at(bytes, place, next - place, d) {
                 Walked::On(e) => {
                     d = e;
@@ -430,7 +435,7 @@ fn envelopes(
             }
             d = gave(values, 0, d);
         } else {
-            let what = content_of(members, first, known, i as u64);
+            let what = nesting::ordinal_of(members, first, known, i as u64);
             let e = gave(values, 1, d);
             match content(
                 rows,
@@ -471,16 +476,16 @@ fn content(
     objects: &mut [u32],
     depth: usize,
     row: usize,
-    what: Kept,
+    what: Ordinal,
     at: usize,
     c: Cursor,
 ) -> Walked
-    requires { ⌜ Ready (now rows) (now members) (now sizes) (now alignments) depth row × KeptFits (now rows) (now members) what × Ask (length (now bytes)) held 7 at c ⌝ }
+    requires { ⌜ Ready (now rows) (now members) (now sizes) (now alignments) depth row × OrdinalFits (now rows) (now members) what × Ask (length (now bytes)) held 7 at c ⌝ }
     ensures { λ r. ⌜ ContentDid (now (rows .entry)) (now (members .entry)) (now (bytes .entry)) held depth (now (values .entry)) (now (values .exit)) (now (objects .entry)) (now (objects .exit)) at c row what r ⌝ }
 {
     match what {
-        Kept::Unknown => unknown_content(bytes, held, values, objects, depth, row, at, c),
-        Kept::Known(payload) => {
+        Ordinal::Unknown => unknown_content(bytes, held, values, objects, depth, row, at, c),
+        Ordinal::Known(payload) => {
             let size = words::number_at(sizes, payload) as usize;
             match known_opened(bytes, held, objects, depth, payload, size, at, c) {
                 Opened::Closed(d) => Walked::On(d),

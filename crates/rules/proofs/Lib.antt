@@ -10,3 +10,4 @@ pub mod Presence
 pub mod Unknown
 pub mod WalkTwins
 pub mod Demands
+pub mod Rooms

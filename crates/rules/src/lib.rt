@@ -1,4 +1,6 @@
 // The types that answers are made of, for the rules in specs/ and for all code that is proved against them.
+ghost use mathlib.Core.Path.{_≡_};
+ghost use Rattle.rules.specs.Refusals.{placeNumber};
 
 // What the place of a refusal names: a row of the type table (256: the lists as a whole), a byte of the
 // message, a number of the value list, or an amount (handles used, or the room needed).
@@ -19,4 +21,17 @@ pub struct Fault {
 pub struct Layout {
     pub size: usize,
     pub alignment: usize,
+}
+
+// A refusal's place as document 01 answers it: a plain number.
+pub fn place_number(f: Fault) -> u64
+    ensures { λ r. ⌜ r ≡ placeNumber (f .place) ⌝ }
+{
+    let place = f.place;
+    match place {
+        Place::Row(row) => row as u64,
+        Place::Byte(offset) => offset as u64,
+        Place::Index(index) => index as u64,
+        Place::Amount(amount) => amount as u64,
+    }
 }

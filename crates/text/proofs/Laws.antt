@@ -4,15 +4,16 @@ use mathlib.Core.Path.{_≡_, refl, sym, _∙_, ap}
 use mathlib.Core.Bool.{Bool, true, false, _&&_, and-false, false≢true}
 use mathlib.Core.List.{List, [], _∷_}
 use Prim.Native.Nat.{ℕ, zero, suc, _+_, _-_, _≤_, _<_}
-use native.Mathlib.Nat.{not-suc-le-zero, le-of-suc-le-suc}
+use native.Mathlib.Nat.{add-zero, not-suc-le-zero, le-of-suc-le-suc}
 use native.Mathlib.Numerals.{add-one}
 use native.Mathlib.Omega.{arith}
 use borrow.Author.Tests.{le-leb, lt-leb, ltb-true}
 use lib.Dec.{ltb}
 use lib.ListN.{length, drop, getD, length-drop, drop-of-length-le}
 use lib.Seq.{drop-cons}
-use Rattle.rules.specs.Text.{Range, range, holds, Form, form, forms, led, notALead, leads, follows, isUtf8}
-use Rattle.text.specs.Sequences.{dueAfter, ledBy, Passes}
+use Rattle.rules.specs.Refusals.{if_then_else_}
+use Rattle.rules.specs.Text.{Range, range, holds, Form, form, forms, Led, led, notALead, leads, follows, isUtf8}
+use Rattle.text.specs.Sequences.{dueAfter, ledBy, Judged, Passes}
 use Rattle.text.specs.declared.Lead.{Lead}
 use Rattle.text.specs.declared.Lead.the-variants.{Sequence, NotALead}
 
@@ -57,6 +58,28 @@ pub leads-nothing :
 leads-nothing count low high byte before later p q =
     sym (lead-after byte count low forms before p ∙ lead-before byte high (drop count forms) later q)
 
+-- No form asks for more than three bytes after its lead.
+abbrev fewAfter : List Form → Type 0
+fewAfter [] = Unit {0}
+fewAfter (form lead after ∷ fs) = (length after ≤ 3) × fewAfter fs
+
+abbrev fewDue : Led → Type 0
+fewDue (led due) = length due ≤ 3
+fewDue notALead = Unit {0}
+
+leads-few : (byte : ℕ) (fs : List Form) → fewAfter fs → fewDue (leads fs byte)
+leads-few byte [] few = tt
+leads-few byte (form lead after ∷ fs) few = go (holds lead byte) (leads-few byte fs (few .1))
+  where
+    go : (b : Bool) → fewDue (leads fs byte) → fewDue (if b then led after else leads fs byte)
+    go true later = few .0
+    go false later = later
+
+length-dueAfter : (after low high : ℕ) → length (dueAfter after low high) ≡ after
+unfolding dueAfter
+length-dueAfter zero low high = refl
+length-dueAfter (suc after) low high = ap suc (length-dueAfter after 0x80 0xBF)
+
 -- ---- one byte of a text
 
 -- Between sequences it is a lead byte,
@@ -66,17 +89,36 @@ next-lead :
 unfolding follows
 next-lead text at inside = rw (add-one, drop-cons text at 0)
 
--- and in a sequence that ends at a place it is the byte that is due: one more is joined to a test of those before it.
-pub due-joined :
-    (followed : Bool) (text : List ℕ) (at end low high : ℕ) → at < end → end ≤ length text →
-    followed && follows (drop at text) (led (dueAfter (end - at) low high))
-    ≡ followed && holds (range low high) (getD text at 0) && follows (drop (at + 1) text) (led (dueAfter (end - (at + 1)) 0x80 0xBF))
+-- and in a sequence it is the byte that is due.
+next-due :
+    (text : List ℕ) (at rest low high : ℕ) → at < length text →
+    follows (drop at text) (led (dueAfter (suc rest) low high))
+    ≡ holds (range low high) (getD text at 0) && follows (drop (at + 1) text) (led (dueAfter rest 0x80 0xBF))
 unfolding follows dueAfter
-due-joined false text at end low high before within = refl
-due-joined true text at end low high before within =
-    let inside : at < length text = omega arith in
-    let one-less : end - at ≡ suc (end - (at + 1)) = omega arith in
-    rw (one-less, drop-cons text at 0, add-one)
+next-due text at rest low high inside = rw (add-one, drop-cons text at 0)
+
+-- ---- the bytes after a lead byte
+
+-- None is due;
+pub judged-none : (text : List ℕ) (at after low high : ℕ) → after ≡ 0 → Judged text at after low high true
+unfolding dueAfter
+judged-none text at after low high none = rw (none, add-zero)
+
+module _ (text : List ℕ) (at after rest low high : ℕ) (more : after ≡ suc rest) (inside : at < length text) {right : Bool} (tested : right ≡ holds (range low high) (getD text at 0)) where
+  -- the first is wrong;
+  pub judged-wrong : right ≡ false → Judged text at after low high false
+  judged-wrong is = rw more (next-due text at rest low high inside ∙ simp (← tested, is))
+
+  -- it is right, and so are those after it, or not;
+  pub judged-more : (next : ℕ) (r : Bool) → next ≡ at + 1 → right ≡ true → Judged text next rest 0x80 0xBF r → Judged text at after low high r
+  judged-more next r onward is judged =
+      let sum : at + 1 + rest ≡ at + suc rest = omega arith in
+      rw more (next-due text at rest low high inside ∙ simp (← tested, is) (rw (onward, sum) at judged))
+
+  -- it is the last.
+  pub judged-last : rest ≡ 0 → Judged text at after low high right
+  unfolding dueAfter
+  judged-last none = rw (more, none) (next-due text at 0 low high inside ∙ simp (← tested))
 
 -- ---- runs of ASCII
 
@@ -106,6 +148,13 @@ pub ascii-joined :
 ascii-joined true passed inside test = byte-passed (passed refl) inside (ltb-true _ _ test)
 ascii-joined false passed inside test = absurd (false≢true test)
 
+-- Two runs, one after the other.
+pub both-ascii :
+    {text : List ℕ} {from middle middle′ next : ℕ} (first second : Bool) → (first ≡ true → Passes text from middle) →
+    (second ≡ true → Passes text middle′ next) → middle ≡ middle′ → first && second ≡ true → Passes text from next
+both-ascii true second p q meet test = both-passed (rw meet at (p refl)) (q test)
+both-ascii false second p q meet test = absurd (false≢true test)
+
 -- ---- sequences: what a byte leads decides on the text
 
 not-a-lead : (text : List ℕ) → follows text notALead ≡ false
@@ -133,13 +182,18 @@ module _
   bad-lead is = sym (judged-by NotALead is ∙ not-a-lead (drop (at + 1) text))
 
   module _ {after low high : ℕ} (is : lead ≡ Sequence after low high) where
+    pub few-after : after ≤ 3
+    few-after =
+        let few : fewDue (led (dueAfter after low high)) = rw (← leads-it, is) at (leads-few (getD text at 0) forms (omega arith)) in
+        omega (arith, length-dueAfter after low high)
+
     pub bad-end : length text - at ≤ after → false ≡ isUtf8 text
     bad-end short =
         sym (judged-by _ is ∙ cut-off (drop (at + 1) text) after low high (omega (arith, length-drop (at + 1) text)))
 
     module _
         (followed : Bool)
-        (judges : follows (drop (at + 1) text) (led (dueAfter after low high)) ≡ followed && follows (drop (at + 1 + after) text) (led [])) where
+        (judges : Judged text (at + 1) after low high followed) where
       pub bad-byte : followed ≡ false → false ≡ isUtf8 text
       bad-byte missed = sym (judged-by _ is ∙ judges ∙ simp missed)
 

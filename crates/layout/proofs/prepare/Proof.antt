@@ -12,23 +12,23 @@ use Rattle.layout.proofs.prepare.Statement.{statement}
 use Rattle.layout.proofs.prepare.Tie as tie
 
 abbrev Inv-loop : tie.InvT-loop
-Inv-loop rows members count sizes₀ alignments₀ row₀ sizes alignments row = Climbing (typeTable rows members) row sizes alignments
+Inv-loop rows members sizes₀ alignments₀ count row₀ sizes alignments row = Climbing (typeTable rows members) row sizes alignments
 
 abbrev μ-loop : tie.MeasureT-loop
-μ-loop rows members count sizes₀ alignments₀ row₀ sizes alignments row = count - row
+μ-loop rows members sizes₀ alignments₀ count row₀ sizes alignments row = count - row
 
 -- ---- before the rows
 
 lists-refused : tie.Need-returns Inv-loop μ-loop
 lists-refused c =
-    let a = c .before .before .before .before .before .args in
+    let a = c .before .before .before .before .before .before .before .args in
     let t = typeTable (a .rows .now) (a .members .now) in
     climbing.refused-promised t (c .refused-at .result) 256 (c .refused-at .ensures)
     (climbing.lists-refused t (sym (c .before .before .lists-whole .ensures) ∙ not-true _ (c .before .if1 .taken)))
 
 loop-holds : tie.Need-loop-holds Inv-loop μ-loop
 loop-holds c =
-    let a = c .before .before .before .before .args in
+    let a = c .before .before .before .before .before .before .args in
     let t = typeTable (a .rows .now) (a .members .now) in
     climbing.climbing-first t (sym (c .before .lists-whole .ensures) ∙ not-false _ (c .if1 .left))
 
@@ -45,10 +45,10 @@ judge-requires c κs = (c .before .before .before .loop .inv .kept, climbing.few
 
 row-refused : tie.Need-returns-2 Inv-loop μ-loop
 row-refused c =
-    let a = c .before .before .before .before .before .before .before .before .before .before .before .before .args in
+    let a = c .before .before .before .before .before .before .before .before .before .before .before .before .before .before .before .before .args in
     let t = typeTable (a .rows .now) (a .members .now) in
-    let i = c .before .before .before .before .before .before .before .loop in
-    let r = c .before .before .before .judge in
+    let i = c .before .before .before .before .before .before .before .before .before .loop in
+    let r = c .before .before .before .before .before .judge in
     climbing.refused-promised t (c .refused-at2 .result) (i .row) (c .refused-at2 .ensures)
     (climbing.row-refused (i .inv) (omega arith) (r .result) (r .ensures) (search needs))
 

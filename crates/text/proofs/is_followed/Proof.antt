@@ -1,67 +1,60 @@
--- `text::is_followed` meets its contract. The loop's invariant: the text after the lead byte is judged by the bytes passed
--- and by what is due from the next one on. The measure is the number of bytes due.
+-- `text::is_followed` meets its contract: a law for each way that it ends, after one for each byte that is right.
 -- Assumes nothing.
-use mathlib.Core.Path.{_≡_, _∙_}
-use mathlib.Core.Bool.{_&&_}
-use Prim.Native.Nat.{_+_, _-_, _≤_}
-use native.Mathlib.Nat.{add-sub-cancel-left, sub-self}
+use mathlib.Core.Path.{refl}
+use mathlib.Core.Bool.{true, false}
+use Prim.Native.Nat.{_+_, _-_}
 use native.Mathlib.Omega.{arith}
-use lib.ListN.{drop}
-use Rattle.rules.specs.Text.{led, follows}
-use Rattle.text.specs.Sequences.{dueAfter}
-use Rattle.text.proofs.Laws.{due-joined}
+use borrow.Author.Needs.{needs}
+use borrow.Author.Tests.{not-true, not-false}
+use Rattle.text.proofs.Laws.{judged-none, judged-wrong, judged-more, judged-last}
 use Rattle.text.proofs.is_followed.Statement.{statement}
 use Rattle.text.proofs.is_followed.Tie as tie
 
-abbrev Inv-loop : tie.InvT-loop
-Inv-loop text at after low high followed₀ least₀ most₀ next₀ end followed least most next =
-    (next ≤ end)
-    × (follows (drop at text) (led (dueAfter after low high)) ≡ followed && follows (drop next text) (led (dueAfter (end - next) least most)))
+returns : tie.Need-returns
+returns c = judged-none _ _ _ _ _ (c .if1 .taken)
 
-abbrev μ-loop : tie.MeasureT-loop
-μ-loop text at after low high followed₀ least₀ most₀ next₀ end followed least most next = end - next
+returns-2 : tie.Need-returns-2
+returns-2 c =
+    let a = c .before .before .before .before .before .args in
+    judged-wrong (a .text .now) (a .at) (a .after) (a .after - 1) (a .low) (a .high) (omega arith) (omega arith) (c .before .is-within .ensures)
+    (not-true _ (c .if2 .taken))
 
-add-end : tie.Need-add-end Inv-loop μ-loop
-add-end c = omega arith
+returns-3 : tie.Need-returns-3
+returns-3 c =
+    let a = c .before .before .before .before .before .before .args in
+    judged-more (a .text .now) (a .at) (a .after) 0 (a .low) (a .high) (c .if3 .taken) (omega arith) (c .before .before .is-within .ensures)
+    (a .at + 1) true refl (not-false _ (c .before .if2 .left))
+    (judged-none (a .text .now) (a .at + 1) 0 0x80 0xBF refl)
 
-loop-holds : tie.Need-loop-holds Inv-loop μ-loop
-loop-holds c = (omega arith, rw add-sub-cancel-left)
+returns-4 : tie.Need-returns-4
+returns-4 c =
+    let a = c .before .before .before .before .before .before .before .before .before .args in
+    judged-more (a .text .now) (a .at) (a .after) (a .after - 1) (a .low) (a .high) (omega arith) (omega arith) (c .before .before .before .before .before .is-within .ensures)
+    (a .at + 1) false refl (not-false _ (c .before .before .before .before .if2 .left))
+    (judged-wrong (a .text .now) (a .at + 1) (a .after - 1) (a .after - 2) 0x80 0xBF (omega arith) (omega arith) (c .before .is-within2 .ensures)
+    (not-true _ (c .if4 .taken)))
 
-shared-slice-read-followed : tie.Need-shared-slice-read-followed Inv-loop μ-loop
-shared-slice-read-followed c = omega arith
+returns-5 : tie.Need-returns-5
+returns-5 c =
+    let a = c .before .before .before .before .before .before .before .before .before .before .args in
+    judged-more (a .text .now) (a .at) (a .after) 1 (a .low) (a .high) (c .if5 .taken) (omega arith) (c .before .before .before .before .before .before .is-within .ensures)
+    (a .at + 1) true refl (not-false _ (c .before .before .before .before .before .if2 .left))
+    (judged-more (a .text .now) (a .at + 1) 1 0 0x80 0xBF refl (omega arith) (c .before .before .is-within2 .ensures)
+    (a .at + 2) true (omega arith) (not-false _ (c .before .if4 .left))
+    (judged-none (a .text .now) (a .at + 2) 0 0x80 0xBF refl))
 
-shared-slice-read-followed-2 : tie.Need-shared-slice-read-followed-2 Inv-loop μ-loop
-shared-slice-read-followed-2 c = omega arith
-
-add-next : tie.Need-add-next Inv-loop μ-loop
-add-next c = omega arith
-
-loop-less : tie.Need-loop-less Inv-loop μ-loop
-loop-less c = omega arith
-
-loop-again : tie.Need-loop-again Inv-loop μ-loop
-loop-again c =
-    let a = c .before .before .before .before .args in
-    let l = c .before .before .before .loop in
-    (omega arith, l .inv .1 ∙ due-joined (l .followed) (a .text .now) (l .next) (a .at + a .after) (l .least) (l .most) (omega arith) (omega arith))
-
-returns : tie.Need-returns Inv-loop μ-loop
-unfolding dueAfter
-returns c =
-    let ended : c .before .loop .next ≡ c .before .before .args .at + c .before .before .args .after = omega arith in
-    c .before .loop .inv .1 ∙ rw (ended, sub-self)
+returns-6 : tie.Need-returns-6
+returns-6 c =
+    let a = c .before .before .before .before .before .before .before .before .before .before .before .before .args in
+    judged-more (a .text .now) (a .at) (a .after) 2 (a .low) (a .high) (omega arith) (omega arith) (c .before .before .before .before .before .before .before .before .is-within .ensures)
+    (a .at + 1) (c .is-within3 .result) refl (not-false _ (c .before .before .before .before .before .before .before .if2 .left))
+    (judged-more (a .text .now) (a .at + 1) 2 1 0x80 0xBF refl (omega arith) (c .before .before .before .before .is-within2 .ensures)
+    (a .at + 2) (c .is-within3 .result) (omega arith) (not-false _ (c .before .before .before .if4 .left))
+    (judged-last (a .text .now) (a .at + 2) 1 0 0x80 0xBF refl (omega arith) (c .is-within3 .ensures) refl))
 
 pub is-followed-spec : {M : Type 1} → statement M
 is-followed-spec =
     tie.close
     (tie.spec
-    Inv-loop
-    μ-loop
-    add-end
-    loop-holds
-    shared-slice-read-followed
-    shared-slice-read-followed-2
-    add-next
-    loop-less
-    loop-again
-    returns)
+    returns (λ c. search needs) (λ c κs. search needs) returns-2 returns-3 (λ c. search needs) (λ c. search needs) (λ c κs. search needs)
+    returns-4 returns-5 (λ c. search needs) (λ c. search needs) (λ c κs. search needs) returns-6)

@@ -9,12 +9,18 @@ use Rattle.rules.specs.Bytes.{roundUp}
 use Rattle.layout.proofs.sizes.round_up.Statement.{statement}
 use Rattle.layout.proofs.sizes.round_up.Tie as tie
 
-product-fits : tie.Need-mul-result
-product-fits c = let a = c .args in omega (arith, div-mul-le-self (a .n + (a .alignment - 1)) (a .alignment))
-
-returns : tie.Need-returns
-unfolding roundUp
-returns c = refl
+product-fits : tie.Need-mul-result-4
+product-fits c = let a = c .before .args in omega (arith, div-mul-le-self (a .n + (a .alignment - 1)) (a .alignment))
 
 pub round-up-spec : {M : Type 1} → statement M
-round-up-spec = tie.close (tie.spec (λ c. search needs) (λ c. search needs) (λ c. search needs) product-fits returns)
+unfolding roundUp
+round-up-spec =
+    tie.close
+    (tie.spec
+    (λ c. search needs) (λ c. search needs) (λ c. search needs) (λ c. search needs) (λ c. search needs) (λ c. search needs)
+    (λ c. search needs) (λ c. search needs) (λ c. search needs) product-fits
+    (λ c. rw (c .match .keys1) (omega arith))
+    (λ c. rw (c .match .keys2))
+    (λ c. rw (c .match .keys3))
+    (λ c. rw (c .match .keys4))
+    (λ c. refl))

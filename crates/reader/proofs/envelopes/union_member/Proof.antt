@@ -26,8 +26,8 @@ returns-3 c =
 
 returns-4 : tie.Need-returns-4
 returns-4 c =
-    let at-content-of = c .before .before .before in
-    (λ rows objects. search (needs, union-unknown, at-content-of .content-of .ensures), search needs)
+    let at-ordinal-of = c .before .before .before in
+    (λ rows objects. search (needs, union-unknown, at-ordinal-of .ordinal-of .ensures), search needs)
 
 returns-5 : tie.Need-returns-5
 returns-5 c =
@@ -35,21 +35,21 @@ returns-5 c =
     let at-gave2 = at-if5 .before .before .before in
     let at-if4 = at-gave2 .before .before in
     let at-is-known = at-if4 .before in
-    let at-content-of = at-is-known .before in
-    let at-if1 = at-content-of .before in
+    let at-ordinal-of = at-is-known .before in
+    let at-if1 = at-ordinal-of .before in
     let at-load642 = at-if1 .before in
     let at-load64 = at-load642 .before in
     let at-shared-slice-known2 = at-load64 .before .before in
     let start = at-shared-slice-known2 .before .before in (
-      λ rows objects. union-empty rows _ _ _ objects _ _ _ _ _ _ _ _ _ (at-content-of .content-of .result) _ (start .pre .0) (start .pre .1) (at-load64 .load64 .ensures) (at-if1 .if1 .left) (at-content-of .content-of .ensures rows)
+      λ rows objects. union-empty rows _ _ _ objects _ _ _ _ _ _ _ _ _ (at-ordinal-of .ordinal-of .result) _ (start .pre .0) (start .pre .1) (at-load64 .load64 .ensures) (at-if1 .if1 .left) (start .pre .2) (start .pre .3) (at-ordinal-of .ordinal-of .ensures)
           (at-is-known .is-known .ensures) (at-if4 .if4 .left) (at-load642 .load642 .ensures) (at-gave2 .gave2 .ensures) (at-shared-slice-known2 .shared-slice-known2 .given) (at-if5 .if5 .taken) (c .fault-at4 .ensures),
       search needs,
     )
 
 returns-6 : tie.Need-returns-6
 returns-6 c =
-    let at-content-of = c .before .before .before .before .before .before .before in
-    (λ rows objects. search (needs, union-member, at-content-of .content-of .ensures), search (needs, member-is, at-content-of .content-of .ensures))
+    let at-ordinal-of = c .before .before .before .before .before .before .before in
+    (λ rows objects. search (needs, union-member, at-ordinal-of .ordinal-of .ensures), search (needs, member-is, at-ordinal-of .ordinal-of .ensures))
 
 pub union-member-spec : {M : Type 1} → statement M
 union-member-spec =

@@ -8,7 +8,7 @@ use Rattle.reader.proofs.pass.judge.Tie as tie
 returns : tie.Need-returns
 returns c =
     let tested = c .before .before .before in
-    let prepared = tested .before .before .before in (
+    let prepared = tested .before in (
       judge-refused _ _ _ _ _ (prepared .prepare .ensures .0) (tested .before2 .ensures) (c .before .f .given .1),
       prepared .prepare .ensures .1,
     )
@@ -17,7 +17,7 @@ pass-requires : tie.Need-pass-requires
 pass-requires c κs =
     let allowed = c .before .before .before .before in
     let tested = allowed .before .before in
-    let prepared = tested .before .before .before in
+    let prepared = tested .before in
     judge-walkable _ _ _ _ _ (prepared .prepare .ensures .0) (tested .before2 .ensures) (allowed .enum-told .given .1)
     (prepared .prepare .ensures .1 .0) (prepared .prepare .ensures .1 .1)
 
@@ -26,7 +26,7 @@ returns-2 c =
     let walked = c .before .before in
     let allowed = walked .before .before .before .before .before in
     let tested = allowed .before .before in
-    let prepared = tested .before .before .before in (
+    let prepared = tested .before in (
       judge-passed _ _ _ _ _ (prepared .prepare .ensures .0) (tested .before2 .ensures) (allowed .enum-told .given .1) (walked .pass .ensures),
       prepared .prepare .ensures .1,
     )

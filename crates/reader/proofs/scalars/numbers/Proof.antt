@@ -1,37 +1,18 @@
--- `reader::scalars::numbers` meets its contract. The loop's invariant: the rest of the numbers lies in a message that is not too
--- long, and to store it as well is to store them all.
+-- `reader::scalars::numbers` meets its contract: the numbers are stored, or there is no room for any.
 -- Assumes nothing.
-use Prim.Native.Nat.{_-_}
 use borrow.Author.Needs.{needs}
-use Rattle.reader.proofs.InLine.{numbers-counted, next-counted, Stored, stored-none, stored-more, stored-all, stored-length, Inside, all-inside, next-fits, next-inside, numbers-given, numbers-past}
+use Rattle.reader.proofs.InLine.{numbers-counted, numbers-given, numbers-past}
 use Rattle.reader.proofs.scalars.numbers.Statement.{statement}
 use Rattle.reader.proofs.scalars.numbers.Tie as tie
 
-abbrev Inv-loop : tie.InvT-loop
-Inv-loop bytes values₀ width count at first end done i₀ p₀ values i p =
-    Inside width end i p × Stored bytes values₀ width count at first end values i p
-
-abbrev μ-loop : tie.MeasureT-loop
-μ-loop bytes values₀ width count at first end done i₀ p₀ values i p = end - i
-
-returns : tie.Need-returns Inv-loop μ-loop
+returns : tie.Need-returns
 returns c = search (needs, numbers-past)
 
-loop-holds : tie.Need-loop-holds Inv-loop μ-loop
-loop-holds c = search (needs, all-inside, stored-none)
-
-loop-again : tie.Need-loop-again Inv-loop μ-loop
-loop-again c = search (needs, next-inside, stored-more)
-
-same-length : tie.Need-same-length Inv-loop μ-loop
-same-length c = search (needs, stored-length)
-
-returns-2 : tie.Need-returns-2 Inv-loop μ-loop
-returns-2 c = search (needs, numbers-given, stored-all)
+returns-2 : tie.Need-returns-2
+returns-2 c = search (needs, numbers-given)
 
 pub numbers-spec : {M : Type 1} → statement M
 numbers-spec =
     tie.close
     (tie.spec
-    Inv-loop μ-loop (λ c. search (needs, numbers-counted)) returns loop-holds (λ c κs. search needs) (λ c κs. search needs)
-    (λ c. search (needs, next-counted, numbers-counted)) (λ c. search (needs, next-fits)) (λ c. search needs) loop-again same-length returns-2)
+    (λ c. search (needs, numbers-counted)) returns (λ c κs. search needs) (λ c. search needs) returns-2)

@@ -17,18 +17,27 @@ use Rattle.rules.specs.Sizes.{sizeOf}
 use Rattle.rules.specs.Decode as D
 use Rattle.words.proofs.load64.Reads as load64-reads
 use Rattle.words.proofs.number_at.Reads as number-at-reads
-use Rattle.reader.specs.Walking.{walkRow, Ready}
-use Rattle.reader.proofs.Readiness.{row-few, row-in-use, row-size, size-small, ready-at, few-elements, level-left}
+use Rattle.nesting.specs.Ready.{Ready}
+use Rattle.nesting.proofs.Readiness.{row-few, row-in-use, row-size, size-small, ready-at}
+use Rattle.nesting.proofs.Members.{members-rise, ordinal-content, ordinal-fits, vector-in-use, box-in-use, table-members, union-members, union-else}
+use Rattle.nesting.proofs.NoParts.{outside-left}
+use Rattle.nesting.proofs.Steps.{fuel}
+use Rattle.nesting.proofs.has_parts.Reads as has-parts-reads
+use Rattle.nesting.proofs.next_step.Reads as next-step-reads
+use Rattle.nesting.proofs.ordinal_of.Reads as ordinal-of-reads
+use Rattle.nesting.proofs.plan_of.Reads as plan-of-reads
+use Rattle.reader.specs.Walking.{walkRow}
+use Rattle.reader.proofs.Levels.{level-left}
 use Rattle.reader.proofs.Contents.{content-unknown, content-closed, content-not-open, payload-few, payload-small, payload-ready, payload-asks, payload-rises, content-sealed, content-refused}
-use Rattle.reader.proofs.Members.{members-rise, kept-fits, member-fits, vector-in-use, box-in-use, table-members, union-members, union-else}
-use Rattle.reader.proofs.OutOfLine.{vector-record, box-record, table-record, union-record, vector-closed, vector-refused, vector-asks, vector-done, box-absent, box-refused, box-asks, box-done, table-closed, table-refused, table-asks, table-done, union-none, union-bad, union-asks, union-done}
+use Rattle.reader.proofs.Unions.{member-fits}
+use Rattle.reader.proofs.OutOfLine.{elements-few, vector-record, box-record, table-record, union-record, vector-closed, vector-refused, vector-asks, vector-done, box-absent, box-refused, box-asks, box-done, table-closed, table-refused, table-asks, table-done, union-none, union-bad, union-asks, union-done}
 use Rattle.reader.proofs.Numbers.{numbers-ask, numbers-done}
+use Rattle.reader.proofs.Plans.{planned-ask, planned-done}
 use Rattle.reader.proofs.Runs.{RunLeft, run-asks, run-next, run-stopped, run-end}
 use Rattle.reader.proofs.TableEnvelopes.{EnvelopesLeft, envelopes-start, envelopes-end, content-asks, last-absent, one-absent, one-present, one-refused, one-lengths}
 use Rattle.reader.proofs.Values.{value-bool, value-number, value-handle, value-string}
-use Rattle.reader.proofs.NoParts.{outside-left, value-empty, array-ask, array-done, number-ask, string-ask}
-use Rattle.reader.proofs.Going.{Going}
-use Rattle.reader.proofs.Turns.{step-of, fuel, going-start, state-known, turn-fill, turn-filled, turn-fill-refused, turn-into, turn-call, turn-called, turn-call-refused, turn-out, turn-done}
+use Rattle.reader.proofs.NoParts.{value-empty, array-ask, array-done, number-ask, string-ask}
+use Rattle.reader.proofs.Turns.{Walking, walking-start, state-known, turn-fill, turn-filled, turn-fill-refused, turn-into, turn-call, turn-called, turn-call-refused, turn-out, turn-done}
 use Rattle.reader.proofs.walk.composite.Reads as composite
 use Rattle.reader.proofs.walk.composite.Kinds as composite-kinds
 use Rattle.reader.proofs.walk.+composite+content+elements+envelopes+out_of_line+value.Lts-composite as composite-lts
@@ -50,11 +59,11 @@ use Rattle.reader.proofs.walk.+composite+content+elements+envelopes+out
 use Rattle.reader.proofs.claims.fill_at.Reads as fill-at-reads
 use Rattle.reader.proofs.cursor.gave.Reads as gave-reads
 use Rattle.reader.proofs.cursor.refused.Reads as refused-reads
-use Rattle.reader.proofs.envelopes.content_of.Reads as content-of-reads
 use Rattle.reader.proofs.envelopes.known_opened.Reads as known-opened-reads
 use Rattle.reader.proofs.envelopes.sealed.Reads as sealed-reads
 use Rattle.reader.proofs.envelopes.union_member.Reads as union-member-reads
 use Rattle.reader.proofs.envelopes.unknown_content.Reads as unknown-content-reads
+use Rattle.reader.proofs.planned.planned.Reads as planned-reads
 use Rattle.reader.proofs.records.box_opened.Reads as box-opened-reads
 use Rattle.reader.proofs.records.string.Reads as string-reads
 use Rattle.reader.proofs.records.table_opened.Reads as table-opened-reads
@@ -63,8 +72,6 @@ use Rattle.reader.proofs.scalars.boolean.Reads as boolean-reads
 use Rattle.reader.proofs.scalars.handle.Reads as handle-reads
 use Rattle.reader.proofs.scalars.number.Reads as number-reads
 use Rattle.reader.proofs.scalars.numbers.Reads as numbers-reads
-use Rattle.reader.proofs.nesting.has_parts.Reads as has-parts-reads
-use Rattle.reader.proofs.nesting.next_step.Reads as next-step-reads
 use Rattle.reader.proofs.walk.+composite+content+elements+envelopes+out_of_line+value.{statement}
 use Rattle.reader.proofs.walk.+composite+content+elements+envelopes+out_of_line+value.Tie.{close}
 
@@ -134,29 +141,24 @@ composite-calls t = (next-step-reads.Asked, next-step-reads.Learnt, fill-at-read
 
 abbrev composite-Inv-loop : composite-lts.InvT-loop
 composite-Inv-loop rows members sizes alignments bytes held values₀ objects₀ depth row at kept₀ around₀ level₀ due₀ place₀ d₀ values objects kept around level due place d =
-    Ready rows members sizes alignments depth row × Going (record { row = 0; done = 0; at = 0 }) rows members alignments bytes held depth row at values₀ objects₀ d₀ values objects kept around level due place d
+    Ready rows members sizes alignments depth row × Walking rows members bytes held depth row at values₀ objects₀ d₀ (record { row = 0; done = 0; at = 0 }) alignments values objects kept around level due place d
 
 abbrev composite-μ-loop : composite-lts.MeasureT-loop
 composite-μ-loop rows members sizes alignments bytes held values₀ objects₀ depth row at kept₀ around₀ level₀ due₀ place₀ d₀ values objects kept around level due place d =
     fuel rows level due place around
 
 composite-loop-holds : (t : ℕ) → composite-lts.Need-loop-holds (composite-calls t) (composite-at t) composite.Post composite-Inv-loop composite-μ-loop
-composite-loop-holds t c = (c .before .before .before .before .before .pre .1 .0, going-start (c .before .before .before .before .before .pre .1 .0) _ _ _ _ refl (c .before .before .before .before .before .pre .1 .1) (c .before .before .before .before .before .pre .1 .2))
-
-composite-next-step-requires : (t : ℕ) → composite-lts.Need-next-step-requires (composite-calls t) (composite-at t) composite.Post composite-Inv-loop composite-μ-loop
-composite-next-step-requires t c κs =
-    let loop = c .loop in
-    let k = state-known (loop .inv .0) (loop .inv .1) in (k .few, k .done, k .from, k .short)
+composite-loop-holds t c = (c .before .before .before .before .before .pre .1 .0, walking-start (c .before .before .before .before .before .pre .1 .0) _ _ refl (c .before .before .before .before .before .pre .1 .1) (c .before .before .before .before .before .pre .1 .2))
 
 composite-sub-fill-at : (t : ℕ) → composite-lts.Need-sub-fill-at (composite-calls t) (composite-at t) composite.Post composite-Inv-loop composite-μ-loop
 composite-sub-fill-at t c =
     let loop = c .before .before .before .before .loop in
-    turn-fill (loop .inv .0) (step-of _ _ _ _ _ _ _ (c .before .before .before .next-step .ensures) (c .before .next .given .1)) (loop .inv .1) .0
+    turn-fill (loop .inv .0) (loop .inv .1) (c .before .before .before .next-step .ensures) (c .before .next .given .1) .0
 
 composite-fill-at-requires : (t : ℕ) → composite-lts.Need-fill-at-requires (composite-calls t) (composite-at t) composite.Post composite-Inv-loop composite-μ-loop
 composite-fill-at-requires t c κs =
     let loop = c .before .before .before .before .loop in
-    omega (arith, turn-fill (loop .inv .0) (step-of _ _ _ _ _ _ _ (c .before .before .before .next-step .ensures) (c .before .next .given .1)) (loop .inv .1))
+    omega (arith, turn-fill (loop .inv .0) (loop .inv .1) (c .before .before .before .next-step .ensures) (c .before .next .given .1))
 
 composite-add-level : (t : ℕ) → composite-lts.Need-add-level (composite-calls t) (composite-at t) composite.Post composite-Inv-loop composite-μ-loop
 composite-add-level t c =
@@ -166,12 +168,12 @@ composite-add-level t c =
 composite-loop-less : (t : ℕ) → composite-lts.Need-loop-less (composite-calls t) (composite-at t) composite.Post composite-Inv-loop composite-μ-loop
 composite-loop-less t c =
     let loop = c .before .before .before .before .before .before .before .before .before .loop in
-    turn-filled (loop .inv .0) (step-of _ _ _ _ _ _ _ (c .before .before .before .before .before .before .before .before .next-step .ensures) (c .before .before .before .before .before .before .next .given .1)) (loop .inv .1) (c .before .before .before .before .fill-at .ensures) (c .before .before .e .given .1) .1
+    turn-filled (loop .inv .0) (loop .inv .1) (c .before .before .before .before .before .before .before .before .next-step .ensures) (c .before .before .before .before .before .before .next .given .1) (c .before .before .before .before .fill-at .ensures) (c .before .before .e .given .1) .1
 
 composite-loop-again : (t : ℕ) → composite-lts.Need-loop-again (composite-calls t) (composite-at t) composite.Post composite-Inv-loop composite-μ-loop
 composite-loop-again t c =
     let loop = c .before .before .before .before .before .before .before .before .before .loop in
-    (loop .inv .0, turn-filled (loop .inv .0) (step-of _ _ _ _ _ _ _ (c .before .before .before .before .before .before .before .before .next-step .ensures) (c .before .before .before .before .before .before .next .given .1)) (loop .inv .1) (c .before .before .before .before .fill-at .ensures) (c .before .before .e .given .1) .0)
+    (loop .inv .0, turn-filled (loop .inv .0) (loop .inv .1) (c .before .before .before .before .before .before .before .before .next-step .ensures) (c .before .before .before .before .before .before .next .given .1) (c .before .before .before .before .fill-at .ensures) (c .before .before .e .given .1) .0)
 
 composite-same-length : (t : ℕ) → composite-lts.Need-same-length (composite-calls t) (composite-at t) composite.Post composite-Inv-loop composite-μ-loop
 composite-same-length t c = c .before .before .before .before .before .before .before .before .loop .inv .1 .lengths .0
@@ -182,57 +184,62 @@ composite-same-length-2 t c = c .before .before .before .before .before .before 
 composite-returns : (t : ℕ) → composite-lts.Need-returns (composite-calls t) (composite-at t) composite.Post composite-Inv-loop composite-μ-loop
 composite-returns t c =
     let loop = c .before .before .before .before .before .before .before .before .loop in
-    turn-fill-refused (loop .inv .0) (step-of _ _ _ _ _ _ _ (c .before .before .before .before .before .before .before .next-step .ensures) (c .before .before .before .before .before .next .given .1)) (loop .inv .1) (c .before .before .before .fill-at .ensures) (c .before .f .given .1)
+    turn-fill-refused (loop .inv .0) (loop .inv .1) (c .before .before .before .before .before .before .before .next-step .ensures) (c .before .before .before .before .before .next .given .1) (c .before .before .before .fill-at .ensures) (c .before .f .given .1)
 
 composite-array-set-from-kept : (t : ℕ) → composite-lts.Need-array-set-from-kept (composite-calls t) (composite-at t) composite.Post composite-Inv-loop composite-μ-loop
 composite-array-set-from-kept t c =
     let loop = c .before .before .before .before .loop in
-    turn-into (loop .inv .0) (step-of _ _ _ _ _ _ _ (c .before .before .before .next-step .ensures) (c .before .part .given .1)) (loop .inv .1) .2
+    turn-into (loop .inv .0) (loop .inv .1) (c .before .before .before .next-step .ensures) (c .before .part .given .1) .2
 
 composite-loop-less-2 : (t : ℕ) → composite-lts.Need-loop-less-2 (composite-calls t) (composite-at t) composite.Post composite-Inv-loop composite-μ-loop
 composite-loop-less-2 t c =
     let loop = c .before .before .before .before .loop in
-    turn-into (loop .inv .0) (step-of _ _ _ _ _ _ _ (c .before .before .before .next-step .ensures) (c .before .part .given .1)) (loop .inv .1) .1
+    turn-into (loop .inv .0) (loop .inv .1) (c .before .before .before .next-step .ensures) (c .before .part .given .1) .1
 
 composite-loop-again-2 : (t : ℕ) → composite-lts.Need-loop-again-2 (composite-calls t) (composite-at t) composite.Post composite-Inv-loop composite-μ-loop
 composite-loop-again-2 t c =
     let loop = c .before .before .before .before .loop in
-    (loop .inv .0, turn-into (loop .inv .0) (step-of _ _ _ _ _ _ _ (c .before .before .before .next-step .ensures) (c .before .part .given .1)) (loop .inv .1) .0)
+    (loop .inv .0, turn-into (loop .inv .0) (loop .inv .1) (c .before .before .before .next-step .ensures) (c .before .part .given .1) .0)
 
 composite-value-requires : (t : ℕ) → composite-lts.Need-value-requires (composite-calls t) (composite-at t) composite.Post composite-Inv-loop composite-μ-loop
 composite-value-requires t c κs =
     let loop = c .before .before .before .before .before .before .loop in
-    let k = turn-call (loop .inv .0) (step-of _ _ _ _ _ _ _ (c .before .before .before .before .before .next-step .ensures) (c .before .before .before .part2 .given .1)) (loop .inv .1) in (omega (arith, c .before .before .before .before .before .before .before .before .before .before .before .before .pre .0, k .2), (k .0, k .1))
+    let k = turn-call (loop .inv .0) (loop .inv .1) (c .before .before .before .before .before .next-step .ensures) (c .before .before .before .part2 .given .1) in (omega (arith, c .before .before .before .before .before .before .before .before .before .before .before .before .pre .0, k .2), (k .0, k .1))
+
+composite-add-place : (t : ℕ) → composite-lts.Need-add-place (composite-calls t) (composite-at t) composite.Post composite-Inv-loop composite-μ-loop
+composite-add-place t c =
+    let loop = c .before .before .before .before .before .before .before .before .before .before .before .before .before .before .before .before .loop in
+    omega (arith, state-known (loop .inv .0) (loop .inv .1) .short)
 
 composite-loop-less-3 : (t : ℕ) → composite-lts.Need-loop-less-3 (composite-calls t) (composite-at t) composite.Post composite-Inv-loop composite-μ-loop
 composite-loop-less-3 t c =
     let loop = c .before .before .before .before .before .before .before .before .before .before .before .before .before .before .before .before .loop in
-    turn-called (loop .inv .0) (step-of _ _ _ _ _ _ _ (c .before .before .before .before .before .before .before .before .before .before .before .before .before .before .before .next-step .ensures) (c .before .before .before .before .before .before .before .before .before .before .before .before .before .part2 .given .1)) (loop .inv .1) (c .before .before .before .before .before .before .before .before .before .value .ensures) (c .before .before .before .e2 .given .1) (c .number-at .ensures) .1
+    turn-called (loop .inv .0) (loop .inv .1) (c .before .before .before .before .before .before .before .before .before .before .before .before .before .before .before .next-step .ensures) (c .before .before .before .before .before .before .before .before .before .before .before .before .before .part2 .given .1) (c .before .before .before .before .before .before .before .before .before .value .ensures) (c .before .before .before .e2 .given .1) (c .number-at .ensures) .1
 
 composite-loop-again-3 : (t : ℕ) → composite-lts.Need-loop-again-3 (composite-calls t) (composite-at t) composite.Post composite-Inv-loop composite-μ-loop
 composite-loop-again-3 t c =
     let loop = c .before .before .before .before .before .before .before .before .before .before .before .before .before .before .before .before .loop in
-    (loop .inv .0, turn-called (loop .inv .0) (step-of _ _ _ _ _ _ _ (c .before .before .before .before .before .before .before .before .before .before .before .before .before .before .before .next-step .ensures) (c .before .before .before .before .before .before .before .before .before .before .before .before .before .part2 .given .1)) (loop .inv .1) (c .before .before .before .before .before .before .before .before .before .value .ensures) (c .before .before .before .e2 .given .1) (c .number-at .ensures) .0)
+    (loop .inv .0, turn-called (loop .inv .0) (loop .inv .1) (c .before .before .before .before .before .before .before .before .before .before .before .before .before .before .before .next-step .ensures) (c .before .before .before .before .before .before .before .before .before .before .before .before .before .part2 .given .1) (c .before .before .before .before .before .before .before .before .before .value .ensures) (c .before .before .before .e2 .given .1) (c .number-at .ensures) .0)
 
 composite-returns-2 : (t : ℕ) → composite-lts.Need-returns-2 (composite-calls t) (composite-at t) composite.Post composite-Inv-loop composite-μ-loop
 composite-returns-2 t c =
     let loop = c .before .before .before .before .before .before .before .before .before .before .before .before .before .before .loop in
-    turn-call-refused (loop .inv .0) (step-of _ _ _ _ _ _ _ (c .before .before .before .before .before .before .before .before .before .before .before .before .before .next-step .ensures) (c .before .before .before .before .before .before .before .before .before .before .before .part2 .given .1)) (loop .inv .1) (c .before .before .before .before .before .before .before .value .ensures) (c .before .f2 .given .1)
+    turn-call-refused (loop .inv .0) (loop .inv .1) (c .before .before .before .before .before .before .before .before .before .before .before .before .before .next-step .ensures) (c .before .before .before .before .before .before .before .before .before .before .before .part2 .given .1) (c .before .before .before .before .before .before .before .value .ensures) (c .before .f2 .given .1)
 
 composite-sub-around : (t : ℕ) → composite-lts.Need-sub-around (composite-calls t) (composite-at t) composite.Post composite-Inv-loop composite-μ-loop
 composite-sub-around t c =
     let loop = c .before .before .before .loop in
-    turn-out (loop .inv .0) (step-of _ _ _ _ _ _ _ (c .before .before .next-step .ensures) (c .enum-told .given .1)) (loop .inv .1) .2
+    turn-out (loop .inv .0) (loop .inv .1) (c .before .before .next-step .ensures) (c .enum-told .given .1) .2
 
 composite-loop-less-4 : (t : ℕ) → composite-lts.Need-loop-less-4 (composite-calls t) (composite-at t) composite.Post composite-Inv-loop composite-μ-loop
 composite-loop-less-4 t c =
     let loop = c .before .before .before .before .loop in
-    turn-out (loop .inv .0) (step-of _ _ _ _ _ _ _ (c .before .before .before .next-step .ensures) (c .before .enum-told .given .1)) (loop .inv .1) .1
+    turn-out (loop .inv .0) (loop .inv .1) (c .before .before .before .next-step .ensures) (c .before .enum-told .given .1) .1
 
 composite-loop-again-4 : (t : ℕ) → composite-lts.Need-loop-again-4 (composite-calls t) (composite-at t) composite.Post composite-Inv-loop composite-μ-loop
 composite-loop-again-4 t c =
     let loop = c .before .before .before .before .loop in
-    (loop .inv .0, turn-out (loop .inv .0) (step-of _ _ _ _ _ _ _ (c .before .before .before .next-step .ensures) (c .before .enum-told .given .1)) (loop .inv .1) .0)
+    (loop .inv .0, turn-out (loop .inv .0) (loop .inv .1) (c .before .before .before .next-step .ensures) (c .before .enum-told .given .1) .0)
 
 composite-same-length-5 : (t : ℕ) → composite-lts.Need-same-length-5 (composite-calls t) (composite-at t) composite.Post composite-Inv-loop composite-μ-loop
 composite-same-length-5 t c = c .before .before .before .loop .inv .1 .lengths .0
@@ -243,7 +250,7 @@ composite-same-length-6 t c = c .before .before .before .loop .inv .1 .lengths .
 composite-returns-3 : (t : ℕ) → composite-lts.Need-returns-3 (composite-calls t) (composite-at t) composite.Post composite-Inv-loop composite-μ-loop
 composite-returns-3 t c =
     let loop = c .before .before .before .loop in
-    turn-done (loop .inv .0) (step-of _ _ _ _ _ _ _ (c .before .before .next-step .ensures) (c .enum-told2 .given .1)) (loop .inv .1)
+    turn-done (loop .inv .0) (loop .inv .1) (c .before .before .next-step .ensures) (c .enum-told2 .given .1)
 
 -- ---- content: an envelope's content
 
@@ -306,7 +313,7 @@ content-returns-5 t c = search (needs, content-refused, c .before .before .befor
 -- ---- elements: a vector's elements
 
 abbrev elements-calls : ℕ → elements-lts.Claims
-elements-calls t = (number-at-reads.Asked, number-at-reads.Learnt, numbers-reads.Asked, numbers-reads.Learnt, value-below t, value.Post)
+elements-calls t = (number-at-reads.Asked, number-at-reads.Learnt, numbers-reads.Asked, numbers-reads.Learnt, plan-of-reads.Asked, plan-of-reads.Learnt, planned-reads.Asked, planned-reads.Learnt, value-below t, value.Post)
 
 abbrev elements-Inv-loop : elements-lts.InvT-loop
 elements-Inv-loop rows members sizes alignments bytes held values₀ objects₀ depth row count at kind size d₀ place₀ left₀ values objects d place left =
@@ -329,24 +336,30 @@ elements-numbers-requires t c κs =
 elements-returns : (t : ℕ) → elements-lts.Need-returns (elements-calls t) (elements-at t) elements.Post elements-Inv-loop elements-μ-loop
 elements-returns t c = search (needs, numbers-done)
 
-elements-value-requires : (t : ℕ) → elements-lts.Need-value-requires (elements-calls t) (elements-at t) elements.Post elements-Inv-loop elements-μ-loop
-elements-value-requires t c κs = (omega (arith, c .before .before .before .before .before .before .before .before .before .before .before .before .before .pre .0), (search needs, search (needs, run-asks)))
+elements-planned-requires : (t : ℕ) → elements-lts.Need-planned-requires (elements-calls t) (elements-at t) elements.Post elements-Inv-loop elements-μ-loop
+elements-planned-requires t c κs = planned-ask (c .before .before .before .before .before .before .before .before .before .before .before .before .before .pre .1 .0) (c .before .before .before .plan-of .ensures) (c .before .if2 .taken) (c .before .before .before .before .number-at3 .ensures) _ (c .before .before .before .before .before .before .before .before .before .before .before .before .before .pre .1 .1)
 
 elements-returns-2 : (t : ℕ) → elements-lts.Need-returns-2 (elements-calls t) (elements-at t) elements.Post elements-Inv-loop elements-μ-loop
-elements-returns-2 t c = search (needs, run-stopped, c .before .before .before .before .before .before .before .before .before .before .before .loop .inv .0, c .before .before .before .before .before .before .before .value .ensures)
+elements-returns-2 t c = planned-done (c .before .before .before .before .before .before .before .before .before .before .before .before .before .before .before .before .pre .1 .0) (c .before .before .before .before .before .before .plan-of .ensures) (c .before .before .before .before .if2 .taken) (c .before .before .before .before .before .before .before .number-at3 .ensures) _ _ _ _ _ _ _ _ _ (c .before .before .before .before .before .before .before .before .before .before .before .before .before .before .before .before .pre .1 .1) (c .before .before .planned .ensures)
+
+elements-value-requires : (t : ℕ) → elements-lts.Need-value-requires (elements-calls t) (elements-at t) elements.Post elements-Inv-loop elements-μ-loop
+elements-value-requires t c κs = (omega (arith, c .before .before .before .before .before .before .before .before .before .before .before .before .before .before .before .before .pre .0), (search needs, search (needs, run-asks)))
+
+elements-returns-3 : (t : ℕ) → elements-lts.Need-returns-3 (elements-calls t) (elements-at t) elements.Post elements-Inv-loop elements-μ-loop
+elements-returns-3 t c = search (needs, run-stopped, c .before .before .before .before .before .before .before .before .before .before .before .loop .inv .0, c .before .before .before .before .before .before .before .value .ensures)
 
 elements-loop-again : (t : ℕ) → elements-lts.Need-loop-again (elements-calls t) (elements-at t) elements.Post elements-Inv-loop elements-μ-loop
 elements-loop-again t c =
-    let r = c .before .before .before .before .before .before .before .before .before .before .before .before .before .before .before .before .before .before .before .before .before .pre .1 .0 in
-    (run-next (c .before .before .before .before .before .before .before .before .before .before .before .loop .inv .0) (c .before .before .before .before .before .before .before .before .before .before .loop-test .taken) (c .before .before .before .before .before .before .before .value .ensures) (row-size r _ (r .in-use) (c .before .before .before .before .before .before .before .before .before .before .before .before .number-at3 .ensures)) (c .before .e .given .1), search needs, search needs)
+    let r = c .before .before .before .before .before .before .before .before .before .before .before .before .before .before .before .before .before .before .before .before .before .before .before .before .pre .1 .0 in
+    (run-next (c .before .before .before .before .before .before .before .before .before .before .before .loop .inv .0) (c .before .before .before .before .before .before .before .before .before .before .loop-test .taken) (c .before .before .before .before .before .before .before .value .ensures) (row-size r _ (r .in-use) (c .before .before .before .before .before .before .before .before .before .before .before .before .before .before .before .number-at3 .ensures)) (c .before .e .given .1), search needs, search needs)
 
-elements-returns-3 : (t : ℕ) → elements-lts.Need-returns-3 (elements-calls t) (elements-at t) elements.Post elements-Inv-loop elements-μ-loop
-elements-returns-3 t c = search (needs, run-end)
+elements-returns-4 : (t : ℕ) → elements-lts.Need-returns-4 (elements-calls t) (elements-at t) elements.Post elements-Inv-loop elements-μ-loop
+elements-returns-4 t c = search (needs, run-end)
 
 -- ---- envelopes: a table's envelopes
 
 abbrev envelopes-calls : ℕ → envelopes-lts.Claims
-envelopes-calls t = (number-at-reads.Asked, number-at-reads.Learnt, load64-reads.Asked, load64-reads.Learnt, refused-reads.Asked, refused-reads.Learnt, gave-reads.Asked, gave-reads.Learnt, content-of-reads.Asked, content-of-reads.Learnt, content-below t, content.Post)
+envelopes-calls t = (number-at-reads.Asked, number-at-reads.Learnt, load64-reads.Asked, load64-reads.Learnt, refused-reads.Asked, refused-reads.Learnt, gave-reads.Asked, gave-reads.Learnt, ordinal-of-reads.Asked, ordinal-of-reads.Learnt, content-below t, content.Post)
 
 abbrev envelopes-Inv-loop : envelopes-lts.InvT-loop
 envelopes-Inv-loop rows members sizes alignments bytes held values₀ objects₀ depth row count at first known d₀ i₀ values objects d i =
@@ -366,54 +379,50 @@ envelopes-returns t c = search (needs, last-absent)
 envelopes-loop-again : (t : ℕ) → envelopes-lts.Need-loop-again (envelopes-calls t) (envelopes-at t) envelopes.Post envelopes-Inv-loop envelopes-μ-loop
 envelopes-loop-again t c = (search (needs, one-absent), search needs, search needs, search needs)
 
-envelopes-content-of-requires : (t : ℕ) → envelopes-lts.Need-content-of-requires (envelopes-calls t) (envelopes-at t) envelopes.Post envelopes-Inv-loop envelopes-μ-loop
-envelopes-content-of-requires t c κs =
-    let at-number-at2 = c .before .before .before .before in
-    let at-number-at = at-number-at2 .before in
-    let start = at-number-at .before .before .before .before .before .before in
-    let m = table-members (start .pre .1 .0) refl (at-number-at .number-at .ensures) (at-number-at2 .number-at2 .ensures) (start .pre .1 .1) in
-    (m .exist, members-rise m)
-
 envelopes-content-requires : (t : ℕ) → envelopes-lts.Need-content-requires (envelopes-calls t) (envelopes-at t) envelopes.Post envelopes-Inv-loop envelopes-μ-loop
 envelopes-content-requires t c κs =
     let at-gave2 = c .before .before .before .before in
-    let at-content-of = at-gave2 .before .before in
-    let at-loop-test = at-content-of .before .before .before in
+    let at-ordinal-of = at-gave2 .before .before in
+    let at-loop-test = at-ordinal-of .before .before .before in
     let at-loop = at-loop-test .before in
     let at-number-at2 = at-loop .before in
     let at-number-at = at-number-at2 .before in
     let start = at-number-at .before .before .before .before .before .before in
     let m = table-members (start .pre .1 .0) refl (at-number-at .number-at .ensures) (at-number-at2 .number-at2 .ensures) (start .pre .1 .1) in
-    (omega (arith, start .pre .0), (start .pre .1 .0, kept-fits m _ (at-content-of .content-of .result) (at-content-of .content-of .ensures), content-asks _ _ _ _ _ _ _ _ _ _ _ (at-loop .loop .inv .0) (at-loop-test .loop-test .taken) (at-gave2 .gave2 .ensures .1)))
+    (omega (arith, start .pre .0), (start .pre .1 .0, ordinal-fits m _ (at-ordinal-of .ordinal-of .result) (ordinal-content m _ (at-ordinal-of .ordinal-of .result) (at-ordinal-of .ordinal-of .ensures)), content-asks _ _ _ _ _ _ _ _ _ _ _ (at-loop .loop .inv .0) (at-loop-test .loop-test .taken) (at-gave2 .gave2 .ensures .1)))
 
 envelopes-loop-again-2 : (t : ℕ) → envelopes-lts.Need-loop-again-2 (envelopes-calls t) (envelopes-at t) envelopes.Post envelopes-Inv-loop envelopes-μ-loop
 envelopes-loop-again-2 t c =
     let at-f = c .before in
     let at-content = at-f .before .before .before .before .before .before in
     let at-gave2 = at-content .before .before .before .before .before in
-    let at-content-of = at-gave2 .before .before in
-    let at-if1 = at-content-of .before in
+    let at-ordinal-of = at-gave2 .before .before in
+    let at-if1 = at-ordinal-of .before in
     let at-load64 = at-if1 .before in
     let at-loop-test = at-load64 .before in
     let at-loop = at-loop-test .before in
     let at-number-at2 = at-loop .before in
     let at-number-at = at-number-at2 .before in
-    let lengths = one-lengths _ _ _ _ _ _ _ _ _ _ _ (at-loop .loop .inv .0) (at-loop-test .loop-test .taken) (at-load64 .load64 .ensures) (at-content-of .content-of .result) (at-if1 .if1 .left) (at-number-at .number-at .ensures) (at-number-at2 .number-at2 .ensures) (at-content-of .content-of .ensures) (at-gave2 .gave2 .ensures) (at-content .content .ensures) in
-    (one-present _ _ _ _ _ _ _ _ _ _ _ (at-loop .loop .inv .0) (at-loop-test .loop-test .taken) (at-load64 .load64 .ensures) (at-content-of .content-of .result) (at-if1 .if1 .left) (at-number-at .number-at .ensures) (at-number-at2 .number-at2 .ensures) (at-content-of .content-of .ensures) (at-gave2 .gave2 .ensures) (at-content .content .ensures) (at-f .f .given .1), omega (arith, at-loop-test .loop-test .taken), lengths .0 ∙ at-loop .loop .inv .2, lengths .1 ∙ at-loop .loop .inv .3)
+    let start = at-number-at .before .before .before .before .before .before in
+    let m = table-members (start .pre .1 .0) refl (at-number-at .number-at .ensures) (at-number-at2 .number-at2 .ensures) (start .pre .1 .1) in
+    let lengths = one-lengths _ _ _ _ _ _ _ _ _ _ _ (at-loop .loop .inv .0) (at-loop-test .loop-test .taken) (at-load64 .load64 .ensures) (at-ordinal-of .ordinal-of .result) (at-if1 .if1 .left) (at-number-at .number-at .ensures) (at-number-at2 .number-at2 .ensures) m (at-ordinal-of .ordinal-of .ensures) (at-gave2 .gave2 .ensures) (at-content .content .ensures) in
+    (one-present _ _ _ _ _ _ _ _ _ _ _ (at-loop .loop .inv .0) (at-loop-test .loop-test .taken) (at-load64 .load64 .ensures) (at-ordinal-of .ordinal-of .result) (at-if1 .if1 .left) (at-number-at .number-at .ensures) (at-number-at2 .number-at2 .ensures) m (at-ordinal-of .ordinal-of .ensures) (at-gave2 .gave2 .ensures) (at-content .content .ensures) (at-f .f .given .1), omega (arith, at-loop-test .loop-test .taken), lengths .0 ∙ at-loop .loop .inv .2, lengths .1 ∙ at-loop .loop .inv .3)
 
 envelopes-returns-2 : (t : ℕ) → envelopes-lts.Need-returns-2 (envelopes-calls t) (envelopes-at t) envelopes.Post envelopes-Inv-loop envelopes-μ-loop
 envelopes-returns-2 t c =
     let at-f2 = c .before in
     let at-content = at-f2 .before .before .before .before .before .before in
     let at-gave2 = at-content .before .before .before .before .before in
-    let at-content-of = at-gave2 .before .before in
-    let at-if1 = at-content-of .before in
+    let at-ordinal-of = at-gave2 .before .before in
+    let at-if1 = at-ordinal-of .before in
     let at-load64 = at-if1 .before in
     let at-loop-test = at-load64 .before in
     let at-loop = at-loop-test .before in
     let at-number-at2 = at-loop .before in
     let at-number-at = at-number-at2 .before in
-    one-refused _ _ _ _ _ _ _ _ _ _ _ (at-loop .loop .inv .0) (at-loop-test .loop-test .taken) (at-load64 .load64 .ensures) (at-content-of .content-of .result) (at-if1 .if1 .left) (at-number-at .number-at .ensures) (at-number-at2 .number-at2 .ensures) (at-content-of .content-of .ensures) (at-gave2 .gave2 .ensures) (at-content .content .ensures) (at-f2 .f2 .given .1)
+    let start = at-number-at .before .before .before .before .before .before in
+    let m = table-members (start .pre .1 .0) refl (at-number-at .number-at .ensures) (at-number-at2 .number-at2 .ensures) (start .pre .1 .1) in
+    one-refused _ _ _ _ _ _ _ _ _ _ _ (at-loop .loop .inv .0) (at-loop-test .loop-test .taken) (at-load64 .load64 .ensures) (at-ordinal-of .ordinal-of .result) (at-if1 .if1 .left) (at-number-at .number-at .ensures) (at-number-at2 .number-at2 .ensures) m (at-ordinal-of .ordinal-of .ensures) (at-gave2 .gave2 .ensures) (at-content .content .ensures) (at-f2 .f2 .given .1)
 
 envelopes-returns-3 : (t : ℕ) → envelopes-lts.Need-returns-3 (envelopes-calls t) (envelopes-at t) envelopes.Post envelopes-Inv-loop envelopes-μ-loop
 envelopes-returns-3 t c = search (needs, envelopes-end)
@@ -452,7 +461,7 @@ out-of-line-elements-requires t c κs =
     let h = vector-in-use r (at-number-at .number-at .ensures) (at-number-at2 .number-at2 .ensures) (at-if1 .if1 .taken) in
     let l = level-left _ _ (at-vector-opened .vector-opened .ensures .1) (at-x .x .given .1) in
     let asks = vector-asks (start .args .rows .now) (start .args .members .now) (start .args .bytes .now) _ _ _ _ _ _ _ _ _ _ (at-number-at .number-at .ensures) (at-if1 .if1 .taken) (at-number-at2 .number-at2 .ensures) (at-number-at3 .number-at3 .ensures) (at-number-at4 .number-at4 .ensures) (start .pre .1 .0) (at-number-at5 .number-at5 .ensures) (at-vector-opened .vector-opened .ensures .0) (at-x .x .given .1) in
-    (omega (arith, start .pre .0, row-in-use r _ h, few-elements r _ h _ asks, l), (ready-at r _ _ (omega arith) h, asks))
+    (omega (arith, start .pre .0, row-in-use r _ h, elements-few r _ h _ asks, l), (ready-at r _ _ (omega arith) h, asks))
 
 out-of-line-returns : (t : ℕ) → out-of-line-lts.Need-returns (out-of-line-calls t) (out-of-line-at t) out-of-line.Post
 out-of-line-returns t c = search (needs, vector-closed, c .before .before .before .before .before .before .before .before .before .before .before .before .before .before .before .before .before .before .before .before .before .before .pre .1 .0)
@@ -652,9 +661,6 @@ value-returns-2 t c =
 value-returns-3 : (t : ℕ) → value-lts.Need-returns-3 (value-calls t) (value-at t) value.Post
 value-returns-3 t c = search (needs, value-handle)
 
-value-has-parts-requires : (t : ℕ) → value-lts.Need-has-parts-requires (value-calls t) (value-at t) value.Post
-value-has-parts-requires t c κs = omega (arith, row-few (c .before .before .before .before .before .before .before .before .before .before .before .pre .1 .0))
-
 value-composite-requires : (t : ℕ) → value-lts.Need-composite-requires (value-calls t) (value-at t) value.Post
 value-composite-requires t c κs =
     let at-if5 = c .before .before in
@@ -718,11 +724,11 @@ pub +composite+content+elements+envelopes+out-of-line+value-spec : {M : Type 1} 
     composite.Post
     composite-Inv-loop
     composite-μ-loop
-    (composite-loop-holds t) (composite-next-step-requires t) (λ c. search needs) (composite-sub-fill-at t) (composite-fill-at-requires t)
+    (composite-loop-holds t) (λ c κs. search needs) (λ c. search needs) (composite-sub-fill-at t) (composite-fill-at-requires t)
     (λ c. search needs) (composite-add-level t) (composite-loop-less t) (composite-loop-again t) (λ c. search needs)
     (composite-same-length t) (composite-same-length-2 t) (composite-returns t) (λ c. search needs) (λ c. search needs)
     (composite-array-set-from-kept t) (λ c. search needs) (composite-loop-less-2 t) (composite-loop-again-2 t) (λ c. search needs)
-    (composite-value-requires t) (λ c. search needs) (λ c κs. search needs) (λ c. search needs) (λ c. search needs)
+    (composite-value-requires t) (λ c. search needs) (λ c κs. search needs) (λ c. search needs) (composite-add-place t)
     (composite-loop-less-3 t) (composite-loop-again-3 t) (λ c. search needs) (λ c. search needs) (λ c. search needs) (composite-returns-2 t)
     (λ c. search needs) (composite-sub-around t) (λ c. search needs) (λ c. search needs) (composite-loop-less-4 t)
     (composite-loop-again-4 t) (λ c. search needs) (composite-same-length-5 t) (composite-same-length-6 t) (composite-returns-3 t))
@@ -740,9 +746,9 @@ pub +composite+content+elements+envelopes+out-of-line+value-spec : {M : Type 1} 
     elements-Inv-loop
     elements-μ-loop
     (λ c. search needs) (λ c κs. search needs) (λ c. search needs) (λ c. search needs) (λ c κs. search needs) (elements-numbers-requires t)
-    (λ c. search needs) (elements-returns t) (λ c κs. search needs) (λ c. search needs) (λ c. search needs) (elements-value-requires t)
-    (λ c. search needs) (λ c. search needs) (λ c. search needs) (λ c. search needs) (elements-returns-2 t) (λ c. search needs)
-    (λ c. search needs) (λ c. search needs) (elements-loop-again t) (λ c. search needs) (λ c. search needs) (elements-returns-3 t))
+    (λ c. search needs) (elements-returns t) (λ c κs. search needs) (λ c. search needs) (λ c κs. search needs) (elements-planned-requires t) (λ c. search needs) (elements-returns-2 t)
+    (λ c. search needs) (elements-value-requires t) (λ c. search needs) (λ c. search needs) (λ c. search needs) (λ c. search needs) (elements-returns-3 t) (λ c. search needs)
+    (λ c. search needs) (λ c. search needs) (elements-loop-again t) (λ c. search needs) (λ c. search needs) (elements-returns-4 t))
     (λ t. envelopes-lts.spec (envelopes-calls t)
     (envelopes-at t)
     envelopes.Post
@@ -751,7 +757,7 @@ pub +composite+content+elements+envelopes+out-of-line+value-spec : {M : Type 1} 
     (λ c. search needs) (λ c. search needs) (λ c κs. search needs) (λ c. search needs) (λ c. search needs) (λ c. search needs)
     (λ c κs. search needs) (λ c. search needs) (envelopes-loop-holds t) (λ c. search needs) (λ c. search needs) (λ c. search needs)
     (λ c κs. search needs) (λ c κs. search needs) (λ c. search needs) (λ c. search needs) (envelopes-returns t) (λ c κs. search needs)
-    (λ c. search needs) (envelopes-loop-again t) (envelopes-content-of-requires t) (λ c κs. search needs) (envelopes-content-requires t)
+    (λ c. search needs) (envelopes-loop-again t) (λ c κs. search needs) (λ c κs. search needs) (envelopes-content-requires t)
     (λ c. search needs) (λ c. search needs) (envelopes-loop-again-2 t) (λ c. search needs) (λ c. search needs) (λ c. search needs)
     (envelopes-returns-2 t) (λ c. search needs) (λ c. search needs) (envelopes-returns-3 t))
     (λ t. out-of-line-lts.spec (out-of-line-calls t)
@@ -776,7 +782,7 @@ pub +composite+content+elements+envelopes+out-of-line+value-spec : {M : Type 1} 
     value.Post
     (λ c. search needs) (λ c κs. search needs) (λ c. search needs) (λ c. search needs) (λ c κs. search needs) (λ c κs. search needs)
     (λ c. search needs) (value-returns t) (value-number-requires t) (λ c. search needs) (value-returns-2 t) (λ c κs. search needs)
-    (λ c. search needs) (value-returns-3 t) (value-has-parts-requires t) (value-composite-requires t) (λ c. search needs)
+    (λ c. search needs) (value-returns-3 t) (λ c κs. search needs) (value-composite-requires t) (λ c. search needs)
     (λ c. search needs) (λ c. search needs) (λ c κs. search needs) (value-returns-5 t) (λ c. search needs) (λ c. search needs)
     (λ c. search needs) (λ c κs. search needs) (λ c. search needs) (λ c. search needs) (λ c κs. search needs) (λ c. search needs)
     (value-numbers-requires t) (λ c. search needs) (value-returns-6 t) (λ c. search needs) (λ c. search needs) (λ c κs. search needs)

@@ -1,0 +1,199 @@
+-- The three demands of specs/Demands.antt, proved: from those of the rules, by the promises of the public functions.
+-- Assumes nothing.
+use mathlib.Core.Path.{_≡_, refl, sym, ap, _∙_}
+use mathlib.Core.List.{List, [], _++_, append-nil}
+use Prim.Native.Nat.{ℕ, _≤_}
+use native.Mathlib.Omega.{arith}
+use lib.ListN.{length, take, drop}
+use lib.Seq.{drop-length, take-at, drop-at}
+use Rattle.rules.specs.Refusals.{Answer, accepted, refused, andThen, lentAfter}
+use Rattle.rules.specs.Bytes.{Octets}
+use Rattle.rules.specs.TypeTable.{TypeTable, typeTable}
+use Rattle.rules.specs.Decode.{Message}
+use Rattle.rules.specs.Answers as Rules
+use Rattle.rules.specs.Answers.{Lists, outputAfter}
+use Rattle.rules.specs.Demands as Of
+use Rattle.rules.specs.Demands.{HasValue, HasObjects, IsWrittenTo}
+use Rattle.rules.proofs.Demands as Proved
+use Rattle.reader.specs.declared.Verdict.{Verdict}
+use Rattle.reader.specs.declared.Verdict.the-variants as Checked
+use Rattle.reader.specs.declared.Given.{Given}
+use Rattle.reader.specs.declared.Given.the-variants as One
+use Rattle.reader.specs.Doing as Doing
+use Rattle.reader.specs.Answers.{verdictOf, givenOf, readingOf, lengthOf, lengthsOf, valuesIn, objectsIn}
+use Rattle.writer.specs.declared.Sizes.{Sizes}
+use Rattle.writer.specs.declared.Written.{Written}
+use Rattle.writer.specs.declared.Written.the-variants as Whole
+use Rattle.writer.specs.Answers.{writtenOf, sizesOf}
+use Rattle.demands.specs.Promises.{Checks, ReadsValues, ReadsObjects, Reads, Writes}
+use Rattle.demands.specs.Demands.{Keeps, IsReadAs, IsListedAs, IsWrittenAs, Demand1, Demand2, Canonical, Demand3}
+use Rattle.demands.proofs.More.{values-more, write-more}
+
+-- ---- answers
+
+verdict-accepted : (r : Verdict) → verdictOf r ≡ accepted tt → r ≡ Checked.Accepted
+verdict-accepted Checked.Accepted e = refl
+verdict-accepted (Checked.Refused f) e = absurd (let z : _≡_ {A = ℕ} 0 1 = cc in omega arith)
+
+given-accepted : (r : Given) {count : ℕ} → givenOf r ≡ accepted count → r ≡ One.Accepted count
+given-accepted (One.Accepted n) e = cc
+given-accepted (One.Refused f) e = absurd (let z : _≡_ {A = ℕ} 0 1 = cc in omega arith)
+
+written-accepted : (r : Written) {sizes : Sizes} → writtenOf r ≡ accepted sizes → r ≡ Whole.Accepted sizes
+written-accepted (Whole.Accepted n) e = cc
+written-accepted (Whole.Refused f) e = absurd (let z : _≡_ {A = ℕ} 0 1 = cc in omega arith)
+
+-- Each answer of the rules is one of the code.
+abbrev givenAs : Answer ℕ → Given
+givenAs (accepted count) = One.Accepted count
+givenAs (refused f) = One.Refused f
+
+given-as : (a : Answer ℕ) → givenOf (givenAs a) ≡ a
+given-as (accepted count) = refl
+given-as (refused f) = refl
+
+abbrev writtenAs : Answer Sizes → Written
+writtenAs (accepted sizes) = Whole.Accepted sizes
+writtenAs (refused f) = Whole.Refused f
+
+written-as : (a : Answer Sizes) → writtenOf (writtenAs a) ≡ a
+written-as (accepted sizes) = refl
+written-as (refused f) = refl
+
+-- ---- demand 1
+
+keeps : (answer : Answer ℕ) (given : Answer (List ℕ)) (lent after : List ℕ) → answer ≡ lengthOf given → after ≡ lentAfter given lent → Keeps answer lent after
+keeps answer (accepted list) lent after e l = rw (e, l) (drop-at list (drop (length list) lent) (length list) refl)
+keeps answer (refused f) lent after e l = rw e l
+
+value-count : (read : Answer Lists) → andThen (lengthsOf read) (λ n. accepted (n .values)) ≡ lengthOf (valuesIn read)
+value-count (accepted lists) = refl
+value-count (refused f) = refl
+
+object-count : (read : Answer Lists) → andThen (lengthsOf read) (λ n. accepted (n .objects)) ≡ lengthOf (objectsIn read)
+object-count (accepted lists) = refl
+object-count (refused f) = refl
+
+byte-count : (write : Answer Rules.Written) → andThen (sizesOf write) (λ n. accepted (n .bytes)) ≡ lengthOf (andThen write (λ w. accepted (w .bytes)))
+byte-count (accepted w) = refl
+byte-count (refused f) = refl
+
+module _ (rows members : List ℕ) (root : ℕ) where
+  pub demand1 : Demand1 rows members root
+  demand1 = record {
+    valuesKeep = λ {message} {values} {values′} {handles} r p.
+        keeps (givenOf r) (Rules.readValues (Doing.message rows members message handles) root (length values)) values values′ (p .answer) (p .list);
+    objectsKeep = λ {message} {objects} {objects′} {handles} r p.
+        keeps (givenOf r) (Rules.readObjects (Doing.message rows members message handles) root (length objects)) objects objects′ (p .answer) (p .list);
+    bothKeep = λ {message} {values} {values′} {objects} {objects′} {handles} r p.
+        let read = Rules.read (Doing.message rows members message handles) root (length values) (length objects) in (
+          keeps (andThen (readingOf r) (λ n. accepted (n .values))) (valuesIn read) values values′ (rw (p .answer) (value-count read)) (p .values-list),
+          keeps (andThen (readingOf r) (λ n. accepted (n .objects))) (objectsIn read) objects objects′ (rw (p .answer) (object-count read)) (p .objects-list),
+        );
+    outputKeeps = λ {values} {out} {out′} r p.
+        let write = Rules.write (typeTable rows members) root values (length out) in
+        keeps (andThen (writtenOf r) (λ n. accepted (n .bytes))) (andThen write (λ w. accepted (w .bytes))) out out′ (rw (p .answer) (byte-count write)) (p .output);
+  }
+
+-- ---- given room
+
+-- What fills a list of its own length is that list.
+fills : (xs list : List ℕ) → length xs ≡ length list → xs ++ drop (length xs) list ≡ list ++ drop (length list) list → xs ≡ list
+fills xs list n e = simp (n, drop-length, append-nil) at e
+
+just-list : (given : Answer (List ℕ)) (list : List ℕ) → givenAs (lengthOf given) ≡ One.Accepted (length list) → lentAfter given list ≡ list ++ drop (length list) list
+    → given ≡ accepted list
+just-list (accepted xs) list e l = let n : length xs ≡ length list = cc in ap accepted (fills xs list n l)
+just-list (refused f) list e l = absurd (let z : _≡_ {A = ℕ} 0 1 = cc in omega arith)
+
+just-message : (given : Answer Rules.Written) (message : List ℕ) (handles : ℕ) → writtenAs (sizesOf given) ≡ Whole.Accepted (record { bytes = length message; handles = handles })
+    → outputAfter given message ≡ message ++ drop (length message) message → given ≡ accepted (record { bytes = message; handles = handles })
+just-message (accepted w) message handles e l =
+    let s : _≡_ {A = Sizes} (record { bytes = length (w .bytes); handles = w .handles }) (record { bytes = length message; handles = handles }) = cc in
+    let n : length (w .bytes) ≡ length message = ap (λ (z : Sizes). z .bytes) s in
+    let h : w .handles ≡ handles = ap (λ (z : Sizes). z .handles) s in
+    let b : w .bytes ≡ message = fills (w .bytes) message n l in
+    rw (← h, ← b)
+just-message (refused f) message handles e l = absurd (let z : _≡_ {A = ℕ} 0 1 = cc in omega arith)
+
+module _ (rows members : List ℕ) (root : ℕ) where
+  abbrev table : TypeTable
+  table = typeTable rows members
+
+  is-read-as : {message values : List ℕ} {handles : ℕ} → HasValue table root message handles values → IsReadAs rows members root message handles values
+  is-read-as v lent lent′ r room p = let e = v (length lent) room in (given-accepted r (p .answer ∙ rw e), p .list ∙ rw e)
+
+  is-listed-as : {message objects : List ℕ} {handles : ℕ} → HasObjects table root message handles objects → IsListedAs rows members root message handles objects
+  is-listed-as v lent lent′ r room p = let e = v (length lent) room in (given-accepted r (p .answer ∙ rw e), p .list ∙ rw e)
+
+  is-written-as : {message values : List ℕ} {handles : ℕ} → IsWrittenTo table root values message handles → IsWrittenAs rows members root values message handles
+  is-written-as w out out′ r room p = let e = w (length out) room in (written-accepted r (p .answer ∙ rw e), p .output ∙ rw e)
+
+  -- And back: a call with just the room that is needed tells.
+
+  has-value : (message : List ℕ) (handles : ℕ) (values : List ℕ) → IsReadAs rows members root message handles values → HasValue table root message handles values
+  has-value message handles values i room fits =
+      let m = Doing.message rows members message handles in
+      let given = Rules.readValues m root (length values) in
+      let q = i values (lentAfter given values) (givenAs (lengthOf given)) (omega arith) (record { answer = given-as (lengthOf given); list = refl }) in
+      values-more m root (length values) room (just-list given values (q .0) (q .1)) fits
+
+  is-written-to : (message : List ℕ) (handles : ℕ) (values : List ℕ) → IsWrittenAs rows members root values message handles → IsWrittenTo table root values message handles
+  is-written-to message handles values i room fits =
+      let given = Rules.write table root values (length message) in
+      let q = i message (outputAfter given message) (writtenAs (sizesOf given)) (omega arith) (record { answer = written-as (sizesOf given); output = refl }) in
+      write-more table root values (length message) room (just-message given message handles (q .0) (q .1)) fits
+
+  -- ---- demands 2 and 3
+
+  abbrev two : Of.Demand2 table root
+  two = Proved.demand2 table root
+
+  abbrev three : Of.Demand3 table root
+  three = Proved.demand3 table root
+
+  pub demand2 : Demand2 rows members root
+  demand2 = record {
+    acceptedExactlyWhenEncoded = λ message handles oct r p.
+        let exactly = two .acceptedExactlyWhenEncoded message handles oct in (
+          λ q. let w = exactly .0 (sym (p .answer) ∙ ap verdictOf q) in (w .0, is-written-as (w .1)),
+          λ w. verdict-accepted r (p .answer ∙ exactly .1 (w .0, is-written-to message handles (w .0) (w .1))),
+        );
+    readingGivesTheValue = λ message handles values w. is-read-as (two .readingGivesTheValue message handles values (is-written-to message handles values w));
+    writingGivesTheMessage = λ message handles values oct v. is-written-as (two .writingGivesTheMessage message handles values oct (has-value message handles values v));
+  }
+
+  canonical-of : (message : List ℕ) (handles : ℕ) → Of.Canonical table root message handles → Canonical rows members root message handles
+  canonical-of message handles c =
+      record {
+        values = c .values;
+        objects = c .objects;
+        trace = c .trace;
+        traceIsTheWalks = c .traceIsTheWalks;
+        valuesAreRead = is-read-as (c .hasValue);
+        objectsAreListed = is-listed-as (c .hasObjects);
+        roundTrip = is-written-as (c .roundTrip);
+        objectsAreClaims = c .objectsAreClaims;
+        unknownContentIsAnObject = c .unknownContentIsAnObject;
+        objectsTile = c .objectsTile;
+        handlesAddUp = c .handlesAddUp;
+      }
+
+  written-back : (message : List ℕ) (handles : ℕ) → Octets message → (lent lent′ : List ℕ) (count : ℕ) (given : Answer (List ℕ))
+      → Rules.readValues (Doing.message rows members message handles) root (length lent) ≡ given → accepted count ≡ lengthOf given → lent′ ≡ lentAfter given lent
+      → IsWrittenAs rows members root (take count lent′) message handles
+  written-back message handles oct lent lent′ count (accepted list) e n l =
+      let long : length list ≡ count = cc in
+      let read : take count lent′ ≡ list = rw l (take-at list (drop (length list) lent) count long) in
+      rw read
+      (is-written-as (two .writingGivesTheMessage message handles list oct
+      (λ room fits. values-more (Doing.message rows members message handles) root (length lent) room e fits)))
+  written-back message handles oct lent lent′ count (refused f) e n l = absurd (let z : _≡_ {A = ℕ} 0 1 = cc in omega arith)
+
+  pub demand3 : Demand3 rows members root
+  demand3 = record {
+    equalValuesExactlyWhenEqual = λ message message₂ handles handles₂ values values₂ oct oct₂ v v₂.
+        three .equalValuesExactlyWhenEqual message message₂ handles handles₂ values values₂ oct oct₂ (has-value message handles values v) (has-value message₂ handles₂ values₂ v₂);
+    canonical = λ message handles oct p. canonical-of message handles (three .canonical message handles oct (sym (p .answer)));
+    roundTrip = λ message handles oct lent lent′ count p. written-back message handles oct lent lent′ count _ refl (p .answer) (p .list);
+  }

@@ -1,0 +1,4 @@
+pub mod Promises
+pub mod More
+pub mod Demands
+pub mod Trips

@@ -1,0 +1,27 @@
+-- The round trip: checked, read, written.
+-- Assumes nothing.
+use mathlib.Core.List.{List}
+use mathlib.Core.Path.{_≡_}
+use Prim.Native.Nat.{ℕ, _≤_}
+use lib.ListN.{length}
+use Rattle.rules.specs.Refusals.{Answer, accepted, refused, andThen}
+use Rattle.rules.specs.Bytes.{Octets}
+use Rattle.rules.specs.Decode.{Message}
+use Rattle.rules.specs.Answers.{Written, check, readValues, write}
+use Rattle.demands.specs.declared.Trip.{Trip}
+use Rattle.demands.specs.declared.Trip.the-variants.{Same, Refused}
+
+-- The message that what was read is written to, or the first refusal.
+abbrev pub trip : Message → (root values-room out-room : ℕ) → Answer Written
+trip m root values-room out-room = andThen (check m root) (λ passed. andThen (readValues m root values-room) (λ values. write (m .table) root values out-room))
+
+-- What is answered: a message that comes back is the same.
+abbrev pub tripOf : Answer Written → Trip
+tripOf (accepted w) = Same
+tripOf (refused f) = Refused f
+
+-- Given room, every message that the checker accepts comes back.
+abbrev pub ComesBack : Message → (root : ℕ) → Type 0
+ComesBack m root =
+    Octets (m .bytes) → check m root ≡ accepted tt
+    → (values : List ℕ) × ((values-room out-room : ℕ) → length values ≤ values-room → length (m .bytes) ≤ out-room → tripOf (trip m root values-room out-room) ≡ Same)

@@ -1,0 +1,81 @@
+// Demand 3's round trip as a function: a message is checked and read, and what was read is written and compared. Its promise
+// says that the message comes back each time. What the three demands say of all public functions: specs/Demands.antt.
+ghost use mathlib.Core.Path.{_≡_};
+ghost use lib.ListN.{length};
+ghost use Rattle.rules.specs.Refusals.{lentAfter};
+ghost use Rattle.rules.specs.TypeTable.{typeTable};
+ghost use Rattle.rules.specs.Answers as Rules;
+ghost use Rattle.rules.specs.Answers.{outputAfter};
+ghost use Rattle.rules.specs.Demands.{IsWrittenTo};
+ghost use Rattle.reader.specs.Doing as Doing;
+ghost use Rattle.demands.specs.Trips.{tripOf, trip};
+use reader::Given;
+use reader::Verdict;
+use rules::Fault;
+use writer::Written;
+
+// What came back: the same bytes and handle count, or others; or one of the three operations refused.
+pub enum Trip {
+    Same,
+    Different,
+    Refused(Fault),
+}
+
+// The values of a message, written and compared with it.
+fn back(
+    rows: &[u32],
+    members: &[u32],
+    root: u32,
+    message: &[u8],
+    handles: u64,
+    values: &[u64],
+    out: &mut [u8],
+) -> Trip
+    requires { ⌜ IsWrittenTo (typeTable (now rows) (now members)) root (now values) (now message) handles ⌝ }
+    ensures answer { λ r. ⌜ r ≡ tripOf (Rules.write (typeTable (now (rows .entry)) (now (members .entry))) root (now (values .entry)) (length (now (out .entry)))) ⌝ }
+    ensures output { λ _. ⌜ now (out .exit) ≡ outputAfter (Rules.write (typeTable (now (rows .entry)) (now (members .entry))) root (now (values .entry)) (length (now (out .entry)))) (now (out .entry)) ⌝ }
+{
+    match writer::write(rows, members, root, values, out) {
+        Written::Refused(f) => Trip::Refused(f),
+        Written::Accepted(sizes) => {
+            let count = sizes.bytes;
+            let same = check::same(&out[..count], message);
+            if same & (sizes.handles as u64 == handles) {
+                Trip::Same
+            } else {
+                Trip::Different
+            }
+        }
+    }
+}
+
+// There and back again, through lists that are lent for the values and for the message written.
+pub fn round_trip(
+    rows: &[u32],
+    members: &[u32],
+    root: u32,
+    message: &[u8],
+    handles: u64,
+    values: &mut [u64],
+    out: &mut [u8],
+) -> Trip
+    ensures answer { λ r. ⌜ r ≡ tripOf (trip (Doing.message (now (rows .entry)) (now (members .entry)) (now (message .entry)) handles) root (length (now (values .entry))) (length (now (out .entry)))) ⌝ }
+    ensures values { λ _. ⌜ now (values .exit) ≡ lentAfter (Rules.readValues (Doing.message (now (rows .entry)) (now (members .entry)) (now (message .entry)) handles) root (length (now (values .entry)))) (now (values .entry)) ⌝ }
+    ensures output { λ _. ⌜ now (out .exit) ≡ outputAfter (trip (Doing.message (now (rows .entry)) (now (members .entry)) (now (message .entry)) handles) root (length (now (values .entry))) (length (now (out .entry)))) (now (out .entry)) ⌝ }
+{
+    if let Verdict::Refused(f) = reader::check(rows, members, root, message, handles) {
+        return Trip::Refused(f);
+    }
+    match reader::read_values(rows, members, root, message, handles, values) {
+        Given::Refused(f) => Trip::Refused(f),
+        Given::Accepted(count) => back(
+            rows,
+            members,
+            root,
+            message,
+            handles,
+            &values[..count],
+            out,
+        ),
+    }
+}

@@ -1,0 +1,14 @@
+-- `nesting::no_plan` meets its contract.
+-- Assumes nothing.
+use mathlib.Core.Path.{refl}
+use native.Mathlib.Omega.{arith}
+use Rattle.nesting.specs.Plans.{partsFrom}
+use Rattle.nesting.proofs.no_plan.Statement.{statement}
+use Rattle.nesting.proofs.no_plan.Tie as tie
+
+returns : tie.Need-returns
+unfolding partsFrom
+returns c = record { few = omega arith; same = refl }
+
+pub no-plan-spec : {M : Type 1} → statement M
+no-plan-spec = tie.close (tie.spec returns)

@@ -1,0 +1,4 @@
+pub mod Nesting
+pub mod Ordinals
+pub mod Ready
+pub mod Plans

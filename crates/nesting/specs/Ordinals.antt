@@ -1,0 +1,40 @@
+-- What an ordinal stands for, searched by halves among members whose ordinals rise.
+-- Assumes nothing.
+use mathlib.Core.Bool.{_||_}
+use mathlib.Core.List.{List}
+use Prim.Native.Nat.{ℕ, zero, suc, _+_, _*_, _/_, _<_}
+use lib.Dec.{ltb, eqb}
+use lib.ListN.{getD}
+use Rattle.rules.specs.Refusals.{if_then_else_}
+use Rattle.rules.specs.TypeTable.{typeTable, rowCount, Content, known, unknown}
+use Rattle.nesting.specs.declared.Ordinal.{Ordinal}
+use Rattle.nesting.specs.declared.Ordinal.the-variants.{Known, Unknown}
+
+abbrev pub ordinalIs : Ordinal → Content
+ordinalIs (Known row) = known row
+ordinalIs Unknown = unknown
+
+-- Between `low` and `high`, in at most so many steps.
+unfoldable pub halvedIn : (members : List ℕ) (ordinal steps low high : ℕ) → Content
+halvedIn members ordinal zero low high = unknown
+halvedIn members ordinal (suc steps) low high =
+    if ltb low high then (
+    if eqb (getD members ((low + high) / 2 * 2) 0) ordinal then known (getD members ((low + high) / 2 * 2 + 1) 0)
+    else if ltb (getD members ((low + high) / 2 * 2) 0) ordinal then halvedIn members ordinal steps ((low + high) / 2 + 1) high
+    else halvedIn members ordinal steps low ((low + high) / 2)
+    ) else unknown
+
+-- Among so many members from `first` on. A type table has at most 1,024: past that nothing is known. Where the ordinals
+-- rise this is `contentOf` of the rules (proofs/Ordinals.antt).
+abbrev pub halved : (members : List ℕ) (ordinal first count : ℕ) → Content
+halved members ordinal first count =
+    if ltb 1024 first || ltb 1024 count then unknown else halvedIn members ordinal (suc count) first (first + count)
+
+-- The ordinals of so many members rise strictly, as in a sound table or union.
+abbrev pub Rising : (members : List ℕ) (first count : ℕ) → Type 0
+Rising members first count = (i j : ℕ) → i < j → j < count → getD members ((first + i) * 2) 0 < getD members ((first + j) * 2) 0
+
+-- A known member's row is in use.
+abbrev pub OrdinalFits : (rows members : List ℕ) → Ordinal → Type 0
+OrdinalFits rows members (Known row) = row < rowCount (typeTable rows members)
+OrdinalFits rows members Unknown = Unit {0}

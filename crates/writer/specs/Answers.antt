@@ -1,0 +1,16 @@
+-- What the answers of this crate's public function mean in the rules.
+-- Assumes nothing.
+use lib.ListN.{length}
+use Rattle.rules.specs.Refusals.{Answer, accepted, refused, andThen}
+use Rattle.rules.specs.Answers as Rules
+use Rattle.writer.specs.declared.Sizes.{Sizes}
+use Rattle.writer.specs.declared.Written.{Written}
+use Rattle.writer.specs.declared.Written.the-variants.{Accepted, Refused}
+
+abbrev pub writtenOf : Written → Answer Sizes
+writtenOf (Accepted sizes) = accepted sizes
+writtenOf (Refused f) = refused f
+
+-- What is answered of a message that is written: how many bytes and handles it has.
+abbrev pub sizesOf : Answer Rules.Written → Answer Sizes
+sizesOf answer = andThen answer (λ w. accepted (record { bytes = length (w .bytes); handles = w .handles }))

@@ -1,0 +1,120 @@
+// A value list measured, and its message written: the tests before the writer's walk, the root's value, the test after it.
+ghost use mathlib.Core.Path.{_≡_};
+ghost use Rattle.rules.specs.TypeTable.{typeTable};
+ghost use Rattle.rules.specs.Answers.{written};
+ghost use Rattle.layout.specs.Answers.{keptSizes, keptAlignments};
+ghost use Rattle.nesting.specs.Ready.{Ready};
+ghost use Rattle.writer.specs.Answers.{writtenOf, sizesOf};
+ghost use Rattle.writer.specs.Passing.{PrimaryPut, afterValue, Passed};
+use crate::Sizes;
+use crate::Written;
+use crate::cursor::Cursor;
+use crate::cursor::Wrote;
+use crate::cursor::fault_at;
+use crate::cursor::put_zeros;
+use crate::walk::value;
+use layout::Soundness;
+use layout::prepare;
+use layout::root_allowed;
+use rules::Fault;
+use rules::Place;
+
+// The primary object: the root's value at 0, and its fill.
+fn primary(
+    rows: &[u32],
+    members: &[u32],
+    sizes: &[u32; 256],
+    alignments: &[u32; 256],
+    root: usize,
+    values: &[u64],
+    out: &mut [u8],
+) -> Wrote
+    requires { ⌜ Ready (now rows) (now members) (now sizes) (now alignments) 32 root ⌝ }
+    ensures { λ r. ⌜ PrimaryPut (now (rows .entry)) (now (members .entry)) (now (values .entry)) root (now (out .entry)) (now (out .exit)) r ⌝ }
+{
+    let size = words::number_at(sizes, root) as usize;
+    let whole = (size + 7) / 8 * 8;
+    let c = Cursor {
+        next: whole,
+        handles: 0,
+        index: 0,
+    };
+    match value(
+        rows,
+        members,
+        sizes,
+        alignments,
+        values,
+        out,
+        0,
+        32,
+        root,
+        0,
+        c,
+    ) {
+        Wrote::Refused(f) => Wrote::Refused(f),
+        Wrote::On(end) => {
+            put_zeros(out, size, whole - size);
+            Wrote::On(end)
+        }
+    }
+}
+
+// Numbers left: 26.
+fn after(end: Cursor, total: usize) -> Written
+    ensures { λ r. ⌜ writtenOf r ≡ afterValue end total ⌝ }
+{
+    if end.index != total {
+        return Written::Refused(fault_at(26, end.index));
+    }
+    Written::Accepted(Sizes {
+        bytes: end.next,
+        handles: end.handles,
+    })
+}
+
+// One walk of a value list, with the test after it. What there is no room for is counted and not stored.
+pub fn pass(
+    rows: &[u32],
+    members: &[u32],
+    sizes: &[u32; 256],
+    alignments: &[u32; 256],
+    root: u32,
+    values: &[u64],
+    out: &mut [u8],
+) -> Written
+    requires { ⌜ Ready (now rows) (now members) (now sizes) (now alignments) 32 root ⌝ }
+    ensures { λ r. ⌜ Passed (now (rows .entry)) (now (members .entry)) (now (values .entry)) root (now (out .entry)) (now (out .exit)) r ⌝ }
+{
+    match primary(rows, members, sizes, alignments, root as usize, values, out) {
+        Wrote::Refused(f) => Written::Refused(f),
+        Wrote::On(end) => after(end, values.len()),
+    }
+}
+
+// Every test but that of the room, by a pass that stores nothing. The arrays lent get the sizes and the alignments that it goes by.
+pub fn measure(
+    rows: &[u32],
+    members: &[u32],
+    sizes: &mut [u32; 256],
+    alignments: &mut [u32; 256],
+    root: u32,
+    values: &[u64],
+) -> Written
+    ensures answer { λ r. ⌜ writtenOf r ≡ sizesOf (written (typeTable (now (rows .entry)) (now (members .entry))) root (now (values .entry))) ⌝ }
+    ensures sizes { λ _. ⌜ now (sizes .exit) ≡ keptSizes (typeTable (now (rows .entry)) (now (members .entry))) ⌝ }
+    ensures alignments { λ _. ⌜ now (alignments .exit) ≡ keptAlignments (typeTable (now (rows .entry)) (now (members .entry))) ⌝ }
+{
+    let verdict = prepare(rows, members, sizes, alignments);
+    if let Soundness::Refused(f) = verdict {
+        return Written::Refused(f);
+    }
+    if !root_allowed(rows, root) {
+        return Written::Refused(Fault {
+            number: 2,
+            place: Place::Row(root),
+        });
+    }
+    let mut none = [0u8; 0];
+    pass(rows, members, sizes, alignments, root, values, &mut none)
+}
