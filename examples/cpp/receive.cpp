@@ -1,0 +1,72 @@
+// Receives a message with its header: reads the header, checks the body and reads its values into a vector.
+//
+//   rt staticlib ratlinery
+//   c++ -Iinclude examples/cpp/receive.cpp target/staticlib/libratlinery.a -o target/receive && target/receive
+#include "ratlinery.h"
+
+#include <array>
+#include <cstdint>
+#include <iostream>
+#include <stdexcept>
+#include <string>
+#include <vector>
+
+// A struct of a string of at most 16 bytes and a handle.
+const std::vector<std::uint32_t> rows = {6, 0, 16, 0, 3, 0, 0, 0, 7, 0, 2, 0};
+const std::vector<std::uint32_t> members = {1, 0, 2, 1};
+const std::uint32_t root = 2;
+
+// A refusal as an exception: its number, and the place that was judged.
+struct Refused : std::runtime_error {
+    Refused(std::uint32_t number, std::uint64_t place)
+        : std::runtime_error("refused with " + std::to_string(number) + " at " + std::to_string(place)) {}
+};
+
+// The value list of a body. A message never gives more numbers than it has bytes.
+std::vector<std::uint64_t> read_values(const std::uint8_t *body, std::size_t length, std::uint64_t handles) {
+    std::vector<std::uint64_t> values(length);
+    std::array<std::uint64_t, 2> answer;
+    std::uint32_t number =
+        ratlinery_read_values(rows.data(), rows.size(), members.data(), members.size(), root, body, length, handles,
+                              values.data(), values.size(), answer.data(), answer.size());
+    if (number != RATLINERY_ACCEPTED)
+        throw Refused(number, answer[0]);
+    values.resize(answer[1]);
+    return values;
+}
+
+// The string of the value list: its count plus 1, then its bytes.
+std::string name_of(const std::vector<std::uint64_t> &values) {
+    return std::string(values.begin() + 1, values.begin() + static_cast<std::ptrdiff_t>(values[0]));
+}
+
+int main() {
+    std::vector<std::uint8_t> message(16);
+    std::array<std::uint64_t, 6> answer;
+    ratlinery_header_write(7, 2, 0, 0, 0x1234, message.data(), message.size(), answer.data(), answer.size());
+
+    // The body: the string "pad", and a handle that is present.
+    std::vector<std::uint64_t> values = {4, 'p', 'a', 'd', 1};
+    std::vector<std::uint8_t> body(64);
+    if (ratlinery_write(rows.data(), rows.size(), members.data(), members.size(), root, values.data(), values.size(),
+                        body.data(), body.size(), answer.data(), answer.size()) != RATLINERY_ACCEPTED)
+        return 1;
+    body.resize(answer[1]);
+    const std::uint64_t handles = answer[2];
+    message.insert(message.end(), body.begin(), body.end());
+
+    if (ratlinery_header_read(message.data(), message.size(), answer.data(), answer.size()) != RATLINERY_ACCEPTED)
+        return 1;
+    std::cout << "transaction " << answer[1] << ", ordinal " << answer[3] << ", body of " << answer[5] << " bytes\n";
+    const std::uint8_t *start = message.data() + answer[4];
+    std::cout << "name " << name_of(read_values(start, answer[5], handles)) << "\n";
+
+    // With too few handles the body is refused: 14, at the handle's word in the body.
+    try {
+        read_values(start, answer[5], 0);
+    } catch (const Refused &refused) {
+        std::cout << "without its handle: " << refused.what() << "\n";
+        return 0;
+    }
+    return 1;
+}

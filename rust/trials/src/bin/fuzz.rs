@@ -1,0 +1,74 @@
+//! A differential fuzz: the library against the reference, from a seed.
+//!
+//! usage: fuzz [CASES [SEED [FIRST]]]
+//!
+//! Runs so many cases from the case FIRST on and prints how often each function gave each number. It fails if something
+//! differs, and if a number from 1 to 26 was never given.
+
+use ratlinery_reference::face::Reference;
+use ratlinery_trials::cases;
+use ratlinery_trials::compare::{Compare, Tally};
+use ratlinery_trials::library::Library;
+use std::process::ExitCode;
+use std::time::Instant;
+
+const CASES: u64 = 400_000;
+const SEED: u64 = 1;
+/// After so many differences there is nothing new to learn.
+const MOST_REPORTS: usize = 5;
+
+fn main() -> ExitCode {
+    let argument = |index: usize, default: u64| match std::env::args().nth(index) {
+        None => default,
+        Some(text) => text.parse().unwrap_or_else(|_| panic!("not a number: {text}")),
+    };
+    let (count, seed, first) = (argument(1, CASES), argument(2, SEED), argument(3, 0));
+    let start = Instant::now();
+    let mut compare = Compare::new(&Library, &Reference);
+    let mut differences = 0;
+    for case in first..first + count {
+        if let Err((description, different)) = cases::run(&mut compare, seed, case) {
+            differences += 1;
+            println!("case {case} of seed {seed}: {different}\n  {description}");
+            if differences == MOST_REPORTS {
+                break;
+            }
+        }
+    }
+    let calls: u64 = compare.tally.values().flatten().sum();
+    let seconds = start.elapsed().as_secs_f64();
+    print_tally(&compare.tally);
+    println!(
+        "{count} cases of seed {seed}, {calls} calls compared, {differences} differences, {seconds:.1} s"
+    );
+    let missing = missing(&compare.tally);
+    if !missing.is_empty() {
+        println!("never given: {missing:?}");
+    }
+    if differences == 0 && missing.is_empty() { ExitCode::SUCCESS } else { ExitCode::FAILURE }
+}
+
+fn total(tally: &Tally, number: usize) -> u64 {
+    tally.values().map(|counts| counts[number]).sum()
+}
+
+fn missing(tally: &Tally) -> Vec<usize> {
+    (0..=26).filter(|&number| total(tally, number) == 0).collect()
+}
+
+/// A line for each number, a column for each function.
+fn print_tally(tally: &Tally) {
+    print!("number {:>12}", "all");
+    tally.keys().for_each(|function| print!(" {function:>12}"));
+    println!();
+    for number in 0..=26 {
+        print!("{number:>6} {:>12}", total(tally, number));
+        for counts in tally.values() {
+            match counts[number] {
+                0 => print!(" {:>12}", "."),
+                count => print!(" {count:>12}"),
+            }
+        }
+        println!();
+    }
+}
