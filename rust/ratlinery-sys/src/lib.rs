@@ -1,10 +1,12 @@
-//! The C functions of `include/ratlinery.h`, as they are declared there. The crate `ratlinery` makes them safe to call.
+//! The C functions of `include/ratlinery.h`, as they are declared there; [`slices`] makes them safe to call.
 //!
 //! # Safety
 //!
 //! Of each function: a pointer with its length is a list of so many elements, aligned to them; what is written overlaps
 //! nothing else that is handed in.
 #![no_std]
+
+pub mod slices;
 
 unsafe extern "C" {
     pub fn ratlinery_layout(

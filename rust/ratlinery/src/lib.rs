@@ -53,7 +53,7 @@
 //!     Ok(())
 //! }
 //! ```
-#![deny(unsafe_code)]
+#![forbid(unsafe_code)]
 
 mod call;
 mod header;

@@ -1,8 +1,9 @@
 //! The type table, and all that is asked under it.
 
-use crate::call::{self, Asked};
+use crate::call;
 use crate::refusal::{Reason, Refusal};
 use crate::tree::Tree;
+use ratlinery_sys::slices::Asked;
 
 /// A type table: rows and members, as `include/ratlinery.h` describes them. Each call judges it anew.
 #[derive(Clone, Copy, Debug, PartialEq, Eq)]
@@ -198,7 +199,8 @@ impl<'t> TypeTable<'t> {
     where
         't: 'm,
     {
-        Asked { table: *self, root, message, handles }
+        let (rows, members) = self.lists();
+        Asked { rows, members, root, message, handles }
     }
 }
 
