@@ -15,6 +15,7 @@ pub struct Asked<'m> {
     pub handles: u64,
 }
 
+#[inline]
 pub fn layout(rows: &[u32], members: &[u32], row: u32, answer: &mut [u64]) -> u32 {
     // SAFETY: see above.
     unsafe {
@@ -30,6 +31,7 @@ pub fn layout(rows: &[u32], members: &[u32], row: u32, answer: &mut [u64]) -> u3
     }
 }
 
+#[inline]
 pub fn check(asked: Asked, answer: &mut [u64]) -> u32 {
     // SAFETY: see above.
     unsafe {
@@ -48,6 +50,7 @@ pub fn check(asked: Asked, answer: &mut [u64]) -> u32 {
     }
 }
 
+#[inline]
 pub fn read(asked: Asked, values: &mut [u64], objects: &mut [u32], answer: &mut [u64]) -> u32 {
     // SAFETY: see above.
     unsafe {
@@ -70,6 +73,7 @@ pub fn read(asked: Asked, values: &mut [u64], objects: &mut [u32], answer: &mut 
     }
 }
 
+#[inline]
 pub fn read_values(asked: Asked, values: &mut [u64], answer: &mut [u64]) -> u32 {
     // SAFETY: see above.
     unsafe {
@@ -90,6 +94,7 @@ pub fn read_values(asked: Asked, values: &mut [u64], answer: &mut [u64]) -> u32 
     }
 }
 
+#[inline]
 pub fn read_objects(asked: Asked, objects: &mut [u32], answer: &mut [u64]) -> u32 {
     // SAFETY: see above.
     unsafe {
@@ -110,6 +115,7 @@ pub fn read_objects(asked: Asked, objects: &mut [u32], answer: &mut [u64]) -> u3
     }
 }
 
+#[inline]
 pub fn write(
     rows: &[u32],
     members: &[u32],
@@ -136,11 +142,13 @@ pub fn write(
     }
 }
 
+#[inline]
 pub fn header_read(message: &[u8], answer: &mut [u64]) -> u32 {
     // SAFETY: see above.
     unsafe { c::ratlinery_header_read(message.as_ptr(), message.len(), answer.as_mut_ptr(), answer.len()) }
 }
 
+#[inline]
 pub fn header_write(
     transaction: u32,
     flags: [u8; 3],
