@@ -31,15 +31,14 @@ use Rattle.writer.specs.declared.records.Opened.{Opened}
 use Rattle.writer.specs.declared.records.Opened.the-variants.{Closed, Open}
 use Rattle.writer.specs.Putting.{answer, Stored, Fits, Fit, Put, Puts, Stands, Ask}
 use Rattle.writer.specs.Opening.{Opens}
-use Rattle.writer.specs.Contracts.{HasCount, NotClosed, UnknownPuts, DeeperOpens, sealedOut}
-use Rattle.writer.specs.Walking.{Claimed, writeRow, ValuePut, ObjectOf, ContentPut}
+use Rattle.writer.specs.Contracts.{NotClosed, UnknownPuts, DeeperOpens, sealedOut}
+use Rattle.writer.specs.Walking.{Claimed, writeRow, ValuePut, SingleOf, ContentPut}
 use Rattle.writer.proofs.InLine.{put-in-line}
 use Rattle.writer.proofs.Together.{put-then, put-halt}
 use Rattle.writer.proofs.Leading.{wrote-stands}
 use Rattle.writer.proofs.Claims.{length-zeros}
 use Rattle.writer.proofs.Levels.{levels-spent, levels-down}
 use Rattle.writer.proofs.Openings.{put-last}
-use Rattle.writer.proofs.Objects.{one-claimed, one-object}
 
 -- ---- the fields of an envelope, after what a part put
 
@@ -232,21 +231,18 @@ module _ (rows members values out : List ℕ) (base depth row at : ℕ) (c : Cur
     unfolding writeFlags writeByteNumber
     large-not-open e = rw (is, out-of-line) (flags-halt outOfLine 8 (c .handles) (bytes-halt (c .next) (opening e)))
 
-    module _ (has : HasCount 1 r) {x : Opening} (e : r ≡ Open x) where
-      one : x .count ≡ 1
-      one = rw e at has
-
-      pub payload-claimed : Claimed values (x .count * sizeOf (typeTable rows members) payload) base x
+    module _ {x : Opening} (e : r ≡ Open x) where
+      pub payload-claimed : Claimed values (sizeOf (typeTable rows members) payload) base x
       payload-claimed =
           let sized = payload-size what ready fits is kept in
           let o = opening e in
-          one-claimed rows members values base payload x one (rw sized (record { within = omega (arith, ask .inside, o .0); advanced = o .1; stands = o .2 }))
+          rw sized (record { within = omega (arith, ask .inside, o .0); advanced = o .1; stands = o .2 })
 
-      module _ {out′ : List ℕ} {w : Wrote} (p : ObjectOf rows members values out out′ base (depth - 1) x payload w) where
+      module _ {out′ : List ℕ} {w : Wrote} (p : SingleOf rows members values out out′ base (depth - 1) x payload w) where
         claimed-put : Put values out out′ 0 at base c w (E.oneDeeper (R.levels (typeTable rows members) depth) (λ F b. E.claim size (F payload)) (drop (c .index) values) (c .next) (c .handles))
         claimed-put =
             let sized = payload-size what ready fits is kept in
-            opening e .3 out′ w (rw sized at (one-object rows members values base payload x one (depth - 1) p))
+            opening e .3 out′ w (rw sized at p)
 
         pub large-refused : {f : Fault} → w ≡ Refused f → ContentPut rows members values out out′ base depth at c what (Refused f)
         unfolding writeFlags writeByteNumber

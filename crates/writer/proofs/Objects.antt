@@ -7,9 +7,6 @@ use native.Mathlib.Omega.{arith}
 use lib.ListN.{length, take, drop}
 use lib.Seq.{sets}
 use Rattle.rules.specs.Bytes.{zeros, padded}
-use Rattle.rules.specs.TypeTable.{typeTable}
-use Rattle.rules.specs.Sizes.{sizeOf}
-use Rattle.rules.specs.Encode as E
 use Rattle.rules.specs.Encode.{Encoder}
 use Rattle.rules.proofs.Bytes.{padded-above, padded-multiple}
 use Rattle.writer.specs.declared.cursor.Cursor.{Cursor}
@@ -17,8 +14,7 @@ use Rattle.writer.specs.declared.cursor.Wrote.{Wrote}
 use Rattle.writer.specs.declared.records.Opening.{Opening}
 use Rattle.writer.specs.Putting.{Put, Puts, Ask}
 use Rattle.writer.specs.Opening.{opened, claimedFrom, ObjectPut}
-use Rattle.writer.specs.Walking.{Claimed, writeRow, writeElements, ElementsPut, ObjectOf}
-use Rattle.writer.proofs.Results.{then-nothing}
+use Rattle.writer.specs.Walking.{Claimed}
 use Rattle.writer.proofs.Parts.{rest-lent}
 use Rattle.writer.proofs.Claims.{object-put}
 use Rattle.writer.proofs.Openings.{padded-is}
@@ -36,10 +32,10 @@ object-asks size base x k = record {
 pub object-few : {values : List ℕ} (size : ℕ) {base : ℕ} (x : Opening) → Claimed values size base x → size ≤ 65536
 object-few size x k = omega (arith, ap (λ (c : Cursor). c .next) (k .advanced), padded-above size, k .stands .free)
 
-pub object-length : (rows members : List ℕ) {values : List ℕ} {base : ℕ} (row : ℕ) (x : Opening) {size : ℕ} → Claimed values (x .count * sizeOf (typeTable rows members) row) base x
-    → sizeOf (typeTable rows members) row ≡ size → (x .count * size ≤ 65536) × (base ≤ x .start) × (x .start ≤ 65536)
-object-length rows members row x k e =
-    (rw e at (object-few (x .count * sizeOf (typeTable rows members) row) x k), k .within, omega (arith, ap (λ (c : Cursor). c .next) (k .advanced), k .stands .free))
+-- Where it ends, as the code counts its size.
+pub object-length : {values : List ℕ} (size : ℕ) {base : ℕ} (x : Opening) {counted : ℕ} → Claimed values size base x → size ≡ counted
+    → (counted ≤ 65536) × (base ≤ x .start) × (x .start ≤ 65536)
+object-length size x k e = (rw e at (object-few size x k), k .within, omega (arith, ap (λ (c : Cursor). c .next) (k .advanced), k .stands .free))
 
 -- The fill up to eight, as the code counts it.
 fill-count : (size : ℕ) → (8 - size % 8) % 8 ≡ padded size - size
@@ -61,15 +57,14 @@ module _ {values : List ℕ} (out : List ℕ) {part′ : List ℕ} (from size ba
             let start : c .next - base + 0 ≡ c .next - base = omega arith in
             rw start at (rest-lent inline outside out part′ (c .next - base) from 0 (padded size) least e)
 
--- An object of so many values of a row, as the code ends it.
-module _ (rows members values out : List ℕ) (base depth row from : ℕ) (x : Opening) {part′ : List ℕ} {w : Wrote} (k : Claimed values (x .count * sizeOf (typeTable rows members) row) base x)
-    (p : ElementsPut rows members values (take (length out - from) (drop from out)) part′ (x .start) depth 0 (x .cursor) row (x .count) w) where
-  pub object-written : {size : ℕ} {out′ : List ℕ} → from ≡ min (x .start - base) (length out) → sizeOf (typeTable rows members) row ≡ size
-      → out′ ≡ sets (take from out ++ (part′ ++ drop (length out - from) (drop from out))) (x .start - base + x .count * size) (zeros ((8 - x .count * size % 8) % 8))
-      → ObjectOf rows members values out out′ base depth x row w
-  object-written least sized s =
-      let length = x .count * sizeOf (typeTable rows members) row in
-      object-filled out from length base (writeElements rows members depth row (x .count)) (k .within) (k .advanced) p least refl (fill-count length) (rw (← sized) at s)
+-- An object as the code ends it: its fields are written, then its fill, and the answer is passed on.
+module _ (values out : List ℕ) (size base from : ℕ) (x : Opening) (fields : Encoder) {part′ : List ℕ} {w : Wrote} (k : Claimed values size base x)
+    (p : Puts values (take (length out - from) (drop from out)) part′ size 0 (x .start) (x .cursor) w fields) where
+  pub object-written : {counted : ℕ} {out′ : List ℕ} {r : Wrote} → from ≡ min (x .start - base) (length out) → size ≡ counted
+      → out′ ≡ sets (take from out ++ (part′ ++ drop (length out - from) (drop from out))) (x .start - base + counted) (zeros ((8 - counted % 8) % 8))
+      → r ≡ w → ObjectPut values out out′ size base (claimedFrom x) r fields
+  object-written least sized s same =
+      rw same (object-filled out from size base fields (k .within) (k .advanced) p least refl (fill-count size) (rw (← sized) at s))
 
 -- Words need no fill.
 pub words-filled : {values : List ℕ} (out : List ℕ) {part′ lent : List ℕ} (from count base : ℕ) {c d : Cursor} {w : Wrote} (fields : Encoder) → base ≤ c .next → d ≡ opened (count * 8) c
@@ -79,20 +74,3 @@ unfolding zeros
 words-filled out from count base fields within claimed p least back =
     let none : 0 ≡ padded (count * 8) - count * 8 = omega (arith, padded-multiple count) in
     object-filled out from (count * 8) base fields within claimed p least back none refl
-
--- ---- an object of one value
-
-one-element : (part : Encoder) (values : List ℕ) (next used : ℕ) → E.elements (λ i. part) 0 1 values next used ≡ part values next used
-unfolding E.elements E.sequence
-one-element part values next used = then-nothing (part values next used)
-
-module _ (rows members values : List ℕ) (base row : ℕ) (x : Opening) (one : x .count ≡ 1) where
-  single : x .count * sizeOf (typeTable rows members) row ≡ sizeOf (typeTable rows members) row
-  single = rw one (omega arith)
-
-  pub one-claimed : Claimed values (sizeOf (typeTable rows members) row) base x → Claimed values (x .count * sizeOf (typeTable rows members) row) base x
-  one-claimed k = rw single k
-
-  pub one-object : (depth : ℕ) {out out′ : List ℕ} {w : Wrote} → ObjectOf rows members values out out′ base depth x row w
-      → ObjectPut values out out′ (sizeOf (typeTable rows members) row) base (claimedFrom x) w (writeRow rows members depth row)
-  one-object depth p = rw (single, one, one-element (writeRow rows members depth row)) at p

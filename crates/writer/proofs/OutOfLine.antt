@@ -28,11 +28,11 @@ use Rattle.writer.specs.declared.envelopes.Member.{Member}
 use Rattle.writer.specs.declared.envelopes.Member.the-variants.{None, Some, Bad}
 use Rattle.writer.specs.Putting.{Put, Puts, tookOne, Stands, Ask}
 use Rattle.writer.specs.Opening.{claimedFrom, Opens}
-use Rattle.writer.specs.Contracts.{HasCount, Reaches, CountedOpens, BoxOpens, TableOpens, OpensMember, UnionOpens, MemberIs}
-use Rattle.writer.specs.Walking.{Claimed, writeRow, writeElements, writeEnvelope, ValuePut, ObjectOf, EnvelopesPut, ContentPut}
+use Rattle.writer.specs.Contracts.{Reaches, CountedOpens, BoxOpens, TableOpens, OpensMember, UnionOpens, MemberIs}
+use Rattle.writer.specs.Walking.{Claimed, writeRow, writeElements, writeEnvelope, ValuePut, ObjectOf, SingleOf, EnvelopesPut, ContentPut}
 use Rattle.writer.proofs.ByKind.{encode-vector, encode-box, encode-table, encode-union}
 use Rattle.writer.proofs.Counts.{counted-vector}
-use Rattle.writer.proofs.Objects.{one-claimed, one-object, words-filled}
+use Rattle.writer.proofs.Objects.{words-filled}
 
 -- The record's own bytes, by its kind.
 module _ (rows members : List ℕ) (row : ℕ) {values : List ℕ} {k at base : ℕ} {c : Cursor} (e : k ≡ getD rows (row * 4) 0) (a : Ask values (sizeOf (typeTable rows members) row) at base c) where
@@ -51,9 +51,6 @@ module _ (rows members : List ℕ) (row : ℕ) {values : List ℕ} {k at base : 
 -- Where an object is open, a level is left.
 pub level-left : (depth : ℕ) (r : Opened) {x : Opening} → Reaches depth r → r ≡ Open x → 0 < depth
 level-left depth r h e = rw e at h
-
-pub count-of : (count : ℕ) (r : Opened) {x : Opening} → HasCount count r → r ≡ Open x → x .count ≡ count
-count-of count r h e = rw e at h
 
 module _ (rows members values out out′ : List ℕ) (base depth row at : ℕ) (c : Cursor) (r : Opened) {k : ℕ} (e : k ≡ getD rows (row * 4) 0)
     (ask : Ask values (sizeOf (typeTable rows members) row) at base c) where
@@ -111,12 +108,12 @@ module _ (rows members values out out′ : List ℕ) (base depth row at : ℕ) (
     pub box-refused : {f : Fault} → r ≡ Opened.Refused f → ValuePut rows members values out out′ base depth at c row (Refused f)
     box-refused z = box-row z
 
-    module _ (has : HasCount 1 r) {x : Opening} (z : r ≡ Open x) where
-      pub box-claimed : Claimed values (x .count * sizeOf (typeTable rows members) a) base x
-      box-claimed = one-claimed rows members values base a x (count-of 1 r has z) (claimed-in (λ x. sizeOf (typeTable rows members) a) (λ x. writeRow rows members (depth - 1) a) x (box-row z))
+    module _ {x : Opening} (z : r ≡ Open x) where
+      pub box-claimed : Claimed values (sizeOf (typeTable rows members) a) base x
+      box-claimed = claimed-in (λ x. sizeOf (typeTable rows members) a) (λ x. writeRow rows members (depth - 1) a) x (box-row z)
 
-      pub box-done : {out″ : List ℕ} {w : Wrote} → ObjectOf rows members values out′ out″ base (depth - 1) x a w → ValuePut rows members values out out″ base depth at c row w
-      box-done {out″} {w} put = box-row z .3 out″ w (one-object rows members values base a x (count-of 1 r has z) (depth - 1) put)
+      pub box-done : {out″ : List ℕ} {w : Wrote} → SingleOf rows members values out′ out″ base (depth - 1) x a w → ValuePut rows members values out out″ base depth at c row w
+      box-done {out″} {w} put = box-row z .3 out″ w put
 
   -- ---- a table
 

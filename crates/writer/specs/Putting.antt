@@ -51,6 +51,10 @@ Puts values out out′ size at base c r part = Put values out out′ size at bas
 abbrev pub PutsInLine : (values out out′ : List ℕ) (size at : ℕ) (c : Cursor) (r : Wrote) → Encoder → Type 0
 PutsInLine values out out′ size at c r part = (base : ℕ) → Puts values out out′ size at base c r part
 
+-- A cursor of three numbers.
+abbrev pub cursorAt : (next handles index : ℕ) → Cursor
+cursorAt next handles index = record { next = next; handles = handles; index = index }
+
 -- The cursor after one more number.
 abbrev pub tookOne : Cursor → Cursor
 tookOne c = record { next = c .next; handles = c .handles; index = c .index + 1 }

@@ -51,6 +51,10 @@ module _ (rows members : List ℕ) where
     abbrev pub ObjectOf : Opening → (row : ℕ) → Wrote → Type 0
     ObjectOf x row r = ObjectPut values out out′ (x .count * sizeOf (typeTable rows members) row) base (claimedFrom x) r (writeElements depth row (x .count))
 
+    -- The same of an object of one value.
+    abbrev pub SingleOf : Opening → (row : ℕ) → Wrote → Type 0
+    SingleOf x row r = ObjectPut values out out′ (sizeOf (typeTable rows members) row) base (claimedFrom x) r (writeRow depth row)
+
     abbrev pub EnvelopesPut : (c : Cursor) (row count : ℕ) → Wrote → Type 0
     EnvelopesPut c row count r = Puts values out out′ (count * 8) 0 base c r (E.elements (writeEnvelope depth row count) 1 count)
 

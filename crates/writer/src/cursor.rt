@@ -40,6 +40,17 @@ pub fn refused(number: u32, index: usize) -> Wrote
     Wrote::Refused(fault_at(number, index))
 }
 
+// A callee's answer, made anew from its parts: copied whole, it would be loaded in other pieces than it was stored in, which
+// costs more than the call.
+pub fn passed_on(answer: Wrote) -> Wrote
+    ensures { λ r. ⌜ r ≡ answer ⌝ }
+{
+    match answer {
+        Wrote::On(c) => Wrote::On(c),
+        Wrote::Refused(f) => Wrote::Refused(f),
+    }
+}
+
 // The cursor after one more number.
 pub fn took(c: Cursor) -> Cursor
     requires { ⌜ c .index < 1152921504606846976 ⌝ }

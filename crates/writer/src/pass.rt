@@ -34,11 +34,6 @@ fn primary(
 {
     let size = words::number_at(sizes, root) as usize;
     let whole = (size + 7) / 8 * 8;
-    let c = Cursor {
-        next: whole,
-        handles: 0,
-        index: 0,
-    };
     match value(
         rows,
         members,
@@ -50,7 +45,9 @@ fn primary(
         32,
         root,
         0,
-        c,
+        whole,
+        0,
+        0,
     ) {
         Wrote::Refused(f) => Wrote::Refused(f),
         Wrote::On(end) => {

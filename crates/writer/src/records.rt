@@ -140,7 +140,7 @@ pub fn box_opened(
     c: Cursor,
 ) -> Opened
     requires { ⌜ Stands (now values) c × (at < 4294967296) × (size ≤ 65528) ⌝ }
-    ensures { λ r. ⌜ BoxOpens (now (values .entry)) (now (out .entry)) (now (out .exit)) depth at c size r × HasCount 1 r × Reaches depth r ⌝ }
+    ensures { λ r. ⌜ BoxOpens (now (values .entry)) (now (out .entry)) (now (out .exit)) depth at c size r × Reaches depth r ⌝ }
 {
     if values.len() <= c.index {
         return Opened::Refused(fault_at(26, c.index));

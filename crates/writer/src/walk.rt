@@ -8,11 +8,11 @@ ghost use Rattle.rules.specs.Sizes.{sizeOf};
 ghost use Rattle.nesting.specs.Nesting.{hasParts};
 ghost use Rattle.nesting.specs.Ordinals.{OrdinalFits};
 ghost use Rattle.nesting.specs.Ready.{Ready, Outside};
-ghost use Rattle.writer.specs.Putting.{Ask};
-ghost use Rattle.writer.specs.Walking.{Claimed, ValuePut, ElementsPut, ObjectOf, EnvelopesPut, ContentPut};
+ghost use Rattle.writer.specs.Putting.{Ask, cursorAt};
+ghost use Rattle.writer.specs.Walking.{Claimed, ValuePut, ElementsPut, ObjectOf, SingleOf, EnvelopesPut, ContentPut};
 use crate::cursor::Cursor;
 use crate::cursor::Wrote;
-use crate::cursor::fault_at;
+use crate::cursor::passed_on;
 use crate::cursor::put_zeros;
 use crate::cursor::refused;
 use crate::cursor::took;
@@ -43,7 +43,8 @@ fn least(a: usize, b: usize) -> usize
     if a < b { a } else { b }
 }
 
-// The value of a row at a place of the output, which starts at the byte `base` of the message.
+// The value of a row at a place of the output, which starts at the byte `base` of the message. The cursor comes as three numbers:
+// as a struct it would go through memory at each level.
 pub fn value(
     rows: &[u32],
     members: &[u32],
@@ -55,12 +56,19 @@ pub fn value(
     depth: usize,
     row: usize,
     at: usize,
-    c: Cursor,
+    next: usize,
+    handles: usize,
+    index: usize,
 ) -> Wrote
     requires { ⌜ Ready (now rows) (now members) (now sizes) (now alignments) depth row
-        × Ask (now values) (sizeOf (typeTable (now rows) (now members)) row) at base c ⌝ }
-    ensures { λ r. ⌜ ValuePut (now (rows .entry)) (now (members .entry)) (now (values .entry)) (now (out .entry)) (now (out .exit)) base depth at c row r ⌝ }
+        × Ask (now values) (sizeOf (typeTable (now rows) (now members)) row) at base (cursorAt next handles index) ⌝ }
+    ensures { λ r. ⌜ ValuePut (now (rows .entry)) (now (members .entry)) (now (values .entry)) (now (out .entry)) (now (out .exit)) base depth at (cursorAt next handles index) row r ⌝ }
 {
+    let c = Cursor {
+        next,
+        handles,
+        index,
+    };
     let kind = words::number_at(rows, row * 4);
     let a = words::number_at(rows, row * 4 + 1);
     if kind == 1 {
@@ -161,7 +169,9 @@ fn elements(
             depth,
             row,
             place,
-            d,
+            d.next,
+            d.handles,
+            d.index,
         ) {
             Wrote::On(e) => {
                 d = e;
@@ -233,7 +243,9 @@ fn composite(
                     depth,
                     part,
                     place,
-                    d,
+                    d.next,
+                    d.handles,
+                    d.index,
                 ) {
                     Wrote::On(e) => {
                         d = e;
@@ -295,6 +307,44 @@ fn object(
     wrote
 }
 
+// An object of one value, in the same way.
+fn single(
+    rows: &[u32],
+    members: &[u32],
+    sizes: &[u32; 256],
+    alignments: &[u32; 256],
+    values: &[u64],
+    out: &mut [u8],
+    base: usize,
+    depth: usize,
+    row: usize,
+    x: Opening,
+) -> Wrote
+    requires { ⌜ Ready (now rows) (now members) (now sizes) (now alignments) depth row
+        × Claimed (now values) (sizeOf (typeTable (now rows) (now members)) row) base x ⌝ }
+    ensures { λ r. ⌜ SingleOf (now (rows .entry)) (now (members .entry)) (now (values .entry)) (now (out .entry)) (now (out .exit)) base depth x row r ⌝ }
+{
+    let from = least(x.start - base, out.len());
+    let wrote = value(
+        rows,
+        members,
+        sizes,
+        alignments,
+        values,
+        &mut out[from..],
+        x.start,
+        depth,
+        row,
+        0,
+        x.cursor.next,
+        x.cursor.handles,
+        x.cursor.index,
+    );
+    let length = words::number_at(sizes, row) as usize;
+    put_zeros(out, x.start - base + length, (8 - length % 8) % 8);
+    passed_on(wrote)
+}
+
 // A value whose record leads out of line: vector, box, table or union.
 fn out_of_line(
     rows: &[u32],
@@ -322,7 +372,7 @@ fn out_of_line(
         return match vector_opened(values, out, depth, size, b, form, at, c) {
             Opened::Closed(d) => Wrote::On(d),
             Opened::Refused(f) => Wrote::Refused(f),
-            Opened::Open(x) => object(
+            Opened::Open(x) => passed_on(object(
                 rows,
                 members,
                 sizes,
@@ -333,7 +383,7 @@ fn out_of_line(
                 depth - 1,
                 a,
                 x,
-            ),
+            )),
         };
     }
     if kind == 8 {
@@ -341,7 +391,7 @@ fn out_of_line(
         return match box_opened(values, out, depth, size, at, c) {
             Opened::Closed(d) => Wrote::On(d),
             Opened::Refused(f) => Wrote::Refused(f),
-            Opened::Open(x) => object(
+            Opened::Open(x) => passed_on(single(
                 rows,
                 members,
                 sizes,
@@ -352,7 +402,7 @@ fn out_of_line(
                 depth - 1,
                 a,
                 x,
-            ),
+            )),
         };
     }
     if kind == 9 {
@@ -361,7 +411,7 @@ fn out_of_line(
             Opened::Refused(f) => Wrote::Refused(f),
             Opened::Open(x) => {
                 let from = least(x.start - base, out.len());
-                envelopes(
+                passed_on(envelopes(
                     rows,
                     members,
                     sizes,
@@ -373,14 +423,14 @@ fn out_of_line(
                     row,
                     x.count,
                     x.cursor,
-                )
+                ))
             }
         };
     }
     match union_member(members, values, out, a, b as usize, form, at, c) {
         Member::None(d) => Wrote::On(d),
         Member::Bad(f) => Wrote::Refused(f),
-        Member::Some(what, d) => content(
+        Member::Some(what, d) => passed_on(content(
             rows,
             members,
             sizes,
@@ -393,7 +443,7 @@ fn out_of_line(
             what,
             at + 8,
             d,
-        ),
+        )),
     }
 }
 
@@ -499,7 +549,9 @@ fn content(
                     depth - 1,
                     payload,
                     at,
-                    c,
+                    c.next,
+                    c.handles,
+                    c.index,
                 ) {
                     Wrote::Refused(f) => Wrote::Refused(f),
                     Wrote::On(d) => {
@@ -512,7 +564,7 @@ fn content(
                 Opened::Closed(d) => Wrote::On(d),
                 Opened::Refused(f) => Wrote::Refused(f),
                 Opened::Open(x) => {
-                    match object(
+                    match single(
                         rows,
                         members,
                         sizes,

@@ -1,11 +1,11 @@
--- The seven functions of walk.rt that call each other meet their contracts. For each function: what its callees promise, its
+-- The eight functions of walk.rt that call each other meet their contracts. For each function: what its callees promise, its
 -- loop's invariant and measure, and an answer to each need that `search needs` does not find; those that it finds stand at the
 -- end, where all is put together.
 --
 -- What falls at each call: 1,048,576 times the depth left, plus four times the row, plus the elements or envelopes left. What is
 -- added last keeps functions apart that call each other on one row and one depth.
 -- Assumes nothing.
-use mathlib.Core.Path.{_≡_, refl, sym, _∙_}
+use mathlib.Core.Path.{_≡_, refl, sym, ap, _∙_}
 use Prim.Native.Nat.{ℕ, _+_, _-_, _*_, _≤_, _<_}
 use native.Mathlib.Omega.{arith}
 use borrow.Author.Needs.{needs}
@@ -18,39 +18,43 @@ use Rattle.nesting.proofs.Members.{members-rise, ordinal-content, ordinal-fits,
 use Rattle.nesting.proofs.NoParts.{outside-left}
 use Rattle.nesting.proofs.Readiness.{row-few, row-in-use, row-size, size-small, ready-at, few-elements}
 use Rattle.nesting.proofs.Steps.{fuel}
-use Rattle.writer.specs.Walking.{writeRow}
+use Rattle.writer.specs.Walking.{writeRow, writeElements}
 use Rattle.writer.proofs.Leading.{ask-stands, wrote-length}
 use Rattle.writer.proofs.Runs.{RunLeft, run-start, run-asks, run-next, run-stopped, run-end}
 use Rattle.writer.proofs.Values.{value-bool, value-number, value-handle, value-string, value-empty, string-ask, number-ask, numbers-ask, numbers-done, array-ask, array-done}
 use Rattle.writer.proofs.Plans.{planned-ask, planned-done}
 use Rattle.writer.proofs.Composite.{Writing, writing-start, level-known, fill-within, fill-done, into-done, call-asks, call-done, call-refused, out-done, all-put}
 use Rattle.writer.proofs.Objects.{object-asks, object-few, object-length, object-written}
-use Rattle.writer.proofs.OutOfLine.{vector-record, box-record, table-record, union-record, level-left, count-of, vector-closed, vector-refused, vector-claimed, vector-done, box-absent, box-refused, box-claimed, box-done, table-closed, table-refused, table-claimed, table-done, union-none, union-bad, union-asks, union-fits, union-done}
+use Rattle.writer.proofs.OutOfLine.{vector-record, box-record, table-record, union-record, level-left, vector-closed, vector-refused, vector-claimed, vector-done, box-absent, box-refused, box-claimed, box-done, table-closed, table-refused, table-claimed, table-done, union-none, union-bad, union-asks, union-fits, union-done}
 use Rattle.writer.proofs.Contents.{put-rises, content-unknown, payload-few, payload-ready, payload-small, payload-size, small-too-deep, small-asks, small-refused, small-sealed, large-closed, large-not-open, payload-claimed, large-refused, large-rises, large-sealed}
 use Rattle.writer.proofs.TableEnvelopes.{EnvelopesLeft, envelopes-start, envelopes-end, envelope-asks, one-ended, one-wrong, one-absent, content-asks, one-present, one-refused}
 use borrow.Fn.Kinds.{In}
 use borrow.Fn.PlainCycle.{Measures, is, falls, and}
 use Rattle.writer.proofs.walk.composite.Reads as composite
 use Rattle.writer.proofs.walk.composite.Kinds as composite-kinds
-use Rattle.writer.proofs.walk.+composite+content+elements+envelopes+object+out_of_line+value.Lts-composite as composite-lts
+use Rattle.writer.proofs.walk.+composite+content+elements+envelopes+object+out_of_line+single+value.Lts-composite as composite-lts
 use Rattle.writer.proofs.walk.content.Reads as content
 use Rattle.writer.proofs.walk.content.Kinds as content-kinds
-use Rattle.writer.proofs.walk.+composite+content+elements+envelopes+object+out_of_line+value.Lts-content as content-lts
+use Rattle.writer.proofs.walk.+composite+content+elements+envelopes+object+out_of_line+single+value.Lts-content as content-lts
 use Rattle.writer.proofs.walk.elements.Reads as elements
 use Rattle.writer.proofs.walk.elements.Kinds as elements-kinds
-use Rattle.writer.proofs.walk.+composite+content+elements+envelopes+object+out_of_line+value.Lts-elements as elements-lts
+use Rattle.writer.proofs.walk.+composite+content+elements+envelopes+object+out_of_line+single+value.Lts-elements as elements-lts
 use Rattle.writer.proofs.walk.envelopes.Reads as envelopes
 use Rattle.writer.proofs.walk.envelopes.Kinds as envelopes-kinds
-use Rattle.writer.proofs.walk.+composite+content+elements+envelopes+object+out_of_line+value.Lts-envelopes as envelopes-lts
+use Rattle.writer.proofs.walk.+composite+content+elements+envelopes+object+out_of_line+single+value.Lts-envelopes as envelopes-lts
 use Rattle.writer.proofs.walk.object.Reads as object
 use Rattle.writer.proofs.walk.object.Kinds as object-kinds
-use Rattle.writer.proofs.walk.+composite+content+elements+envelopes+object+out_of_line+value.Lts-object as object-lts
+use Rattle.writer.proofs.walk.+composite+content+elements+envelopes+object+out_of_line+single+value.Lts-object as object-lts
 use Rattle.writer.proofs.walk.out_of_line.Reads as out-of-line
 use Rattle.writer.proofs.walk.out_of_line.Kinds as out-of-line-kinds
-use Rattle.writer.proofs.walk.+composite+content+elements+envelopes+object+out_of_line+value.Lts-out_of_line as out-of-line-lts
+use Rattle.writer.proofs.walk.+composite+content+elements+envelopes+object+out_of_line+single+value.Lts-out_of_line as out-of-line-lts
 use Rattle.writer.proofs.walk.value.Reads as value
 use Rattle.writer.proofs.walk.value.Kinds as value-kinds
-use Rattle.writer.proofs.walk.+composite+content+elements+envelopes+object+out_of_line+value.Lts-value as value-lts
+use Rattle.writer.proofs.walk.+composite+content+elements+envelopes+object+out_of_line+single+value.Lts-value as value-lts
+use Rattle.writer.proofs.walk.single.Reads as single
+use Rattle.writer.proofs.walk.single.Kinds as single-kinds
+use Rattle.writer.proofs.walk.+composite+content+elements+envelopes+object+out_of_line+single+value.Lts-single as single-lts
+use Rattle.writer.proofs.cursor.passed_on.Reads as passed-on-reads
 use Rattle.nesting.proofs.has_parts.Reads as has-parts-reads
 use Rattle.nesting.proofs.next_step.Reads as next-step-reads
 use Rattle.nesting.proofs.ordinal_of.Reads as ordinal-of-reads
@@ -75,8 +79,8 @@ use Rattle.writer.proofs.scalars.handle.Reads as handle-reads
 use Rattle.writer.proofs.scalars.number.Reads as number-reads
 use Rattle.writer.proofs.scalars.numbers.Reads as numbers-reads
 use Rattle.writer.proofs.walk.least.Reads as least-reads
-use Rattle.writer.proofs.walk.+composite+content+elements+envelopes+object+out_of_line+value.{statement}
-use Rattle.writer.proofs.walk.+composite+content+elements+envelopes+object+out_of_line+value.Tie.{close}
+use Rattle.writer.proofs.walk.+composite+content+elements+envelopes+object+out_of_line+single+value.{statement}
+use Rattle.writer.proofs.walk.+composite+content+elements+envelopes+object+out_of_line+single+value.Tie.{close}
 
 abbrev μ-composite : Measures 6 composite-kinds.ps ℕ
 μ-composite κs a = a .1 .1 .1 .1 .1 .1 .1 .0 * 1048576 + 4 * (a .1 .1 .1 .1 .1 .1 .1 .1 .0) + 1
@@ -95,6 +99,9 @@ abbrev μ-object : Measures 6 object-kinds.ps ℕ
 
 abbrev μ-out-of-line : Measures 6 out-of-line-kinds.ps ℕ
 μ-out-of-line κs a = a .1 .1 .1 .1 .1 .1 .1 .0 * 1048576 + 4 * (a .1 .1 .1 .1 .1 .1 .1 .1 .0) + 1
+
+abbrev μ-single : Measures 6 single-kinds.ps ℕ
+μ-single κs a = a .1 .1 .1 .1 .1 .1 .1 .0 * 1048576 + 4 * (a .1 .1 .1 .1 .1 .1 .1 .1 .0) + 3
 
 abbrev μ-value : Measures 6 value-kinds.ps ℕ
 μ-value κs a = a .1 .1 .1 .1 .1 .1 .1 .0 * 1048576 + 4 * (a .1 .1 .1 .1 .1 .1 .1 .1 .0) + 2
@@ -139,6 +146,12 @@ out-of-line-at t =
 abbrev out-of-line-below : ℕ → In 6 out-of-line-kinds.ps
 out-of-line-below t =
     and 6 out-of-line-kinds.ps (falls 6 out-of-line-kinds.ps _<_ μ-out-of-line t) out-of-line.Pre
+
+abbrev single-at : ℕ → In 6 single-kinds.ps
+single-at t = and 6 single-kinds.ps (is 6 single-kinds.ps μ-single t) single.Pre
+
+abbrev single-below : ℕ → In 6 single-kinds.ps
+single-below t = and 6 single-kinds.ps (falls 6 single-kinds.ps _<_ μ-single t) single.Pre
 
 abbrev value-at : ℕ → In 6 value-kinds.ps
 value-at t = and 6 value-kinds.ps (is 6 value-kinds.ps μ-value t) value.Pre
@@ -284,7 +297,7 @@ composite-returns-2 t c =
 -- ---- content: an envelope's content
 
 abbrev content-calls : ℕ → content-lts.Claims
-content-calls t = (unknown-content-reads.Asked, unknown-content-reads.Learnt, number-at-reads.Asked, number-at-reads.Learnt, refused-reads.Asked, refused-reads.Learnt, value-below t, value.Post, sealed-reads.Asked, sealed-reads.Learnt, deeper-reads.Asked, deeper-reads.Learnt, object-below t, object.Post)
+content-calls t = (unknown-content-reads.Asked, unknown-content-reads.Learnt, number-at-reads.Asked, number-at-reads.Learnt, refused-reads.Asked, refused-reads.Learnt, value-below t, value.Post, sealed-reads.Asked, sealed-reads.Learnt, deeper-reads.Asked, deeper-reads.Learnt, single-below t, single.Post)
 
 content-unknown-content-requires : (t : ℕ) → content-lts.Need-unknown-content-requires (content-calls t) (content-at t) content.Post
 content-unknown-content-requires t c κs =
@@ -353,69 +366,69 @@ content-deeper-requires t c κs =
     let start = at-what .before .before .before .before .before .before in
     (start .pre .1 .2 .free, start .pre .1 .2 .held, start .pre .1 .3, omega (arith, payload-small _ (start .pre .1 .0) (start .pre .1 .1) (at-what .what .given .1) (at-number-at .number-at .ensures)))
 
-content-sub-object : (t : ℕ) → content-lts.Need-sub-object (content-calls t) (content-at t) content.Post
-content-sub-object t c =
+content-sub-single : (t : ℕ) → content-lts.Need-sub-single (content-calls t) (content-at t) content.Post
+content-sub-single t c =
     let at-x = c .before .before in
     let at-deeper = at-x .before .before in
     omega (arith, level-left _ _ (at-deeper .deeper .ensures .2) (at-x .x .given .1))
 
-content-object-requires : (t : ℕ) → content-lts.Need-object-requires (content-calls t) (content-at t) content.Post
-content-object-requires t c κs =
+content-single-requires : (t : ℕ) → content-lts.Need-single-requires (content-calls t) (content-at t) content.Post
+content-single-requires t c κs =
     let at-x = c .before .before in
     let at-deeper = at-x .before .before in
     let at-if1 = at-deeper .before in
     let at-number-at = at-if1 .before in
     let at-what = at-number-at .before .before .before in
     let start = at-what .before .before .before .before .before .before in
-    let l = level-left _ _ (at-deeper .deeper .ensures .2) (at-x .x .given .1) in (omega (arith, start .pre .0, l, count-of 1 _ (at-deeper .deeper .ensures .1) (at-x .x .given .1), payload-few _ (start .pre .1 .0) (start .pre .1 .1) (at-what .what .given .1)), (payload-ready _ (start .pre .1 .0) (start .pre .1 .1) (at-what .what .given .1), payload-claimed _ _ _ (start .args .out .now) _ _ _ _ _ _ (start .pre .1 .0) (start .pre .1 .1) (at-what .what .given .1) (at-number-at .number-at .ensures) (start .pre .1 .2) (omega (arith, at-if1 .if1 .left)) _ (at-deeper .deeper .ensures .0) (at-deeper .deeper .ensures .1) (at-x .x .given .1)))
+    let l = level-left _ _ (at-deeper .deeper .ensures .2) (at-x .x .given .1) in (omega (arith, start .pre .0, l, payload-few _ (start .pre .1 .0) (start .pre .1 .1) (at-what .what .given .1)), (payload-ready _ (start .pre .1 .0) (start .pre .1 .1) (at-what .what .given .1), payload-claimed _ _ _ (start .args .out .now) _ _ _ _ _ _ (start .pre .1 .0) (start .pre .1 .1) (at-what .what .given .1) (at-number-at .number-at .ensures) (start .pre .1 .2) (omega (arith, at-if1 .if1 .left)) _ (at-deeper .deeper .ensures .0) (at-x .x .given .1)))
 
 content-sub-bytes : (t : ℕ) → content-lts.Need-sub-bytes (content-calls t) (content-at t) content.Post
 content-sub-bytes t c =
     let at-d3 = c .before .before .before in
-    let at-object = at-d3 .before .before .before .before in
-    let at-x = at-object .before .before .before in
+    let at-single = at-d3 .before .before .before .before in
+    let at-x = at-single .before .before .before in
     let at-deeper = at-x .before .before in
     let at-if1 = at-deeper .before in
     let at-number-at = at-if1 .before in
     let at-what = at-number-at .before .before .before in
     let start = at-what .before .before .before .before .before .before in
-    omega (arith, large-rises _ _ _ _ _ _ _ _ _ _ (start .pre .1 .0) (start .pre .1 .1) (at-what .what .given .1) (at-number-at .number-at .ensures) (start .pre .1 .2) (omega (arith, at-if1 .if1 .left)) _ (at-deeper .deeper .ensures .0) (at-deeper .deeper .ensures .1) (at-x .x .given .1) (at-object .object .ensures) (at-d3 .d3 .given .1))
+    omega (arith, large-rises _ _ _ _ _ _ _ _ _ _ (start .pre .1 .0) (start .pre .1 .1) (at-what .what .given .1) (at-number-at .number-at .ensures) (start .pre .1 .2) (omega (arith, at-if1 .if1 .left)) _ (at-deeper .deeper .ensures .0) (at-x .x .given .1) (at-single .single .ensures) (at-d3 .d3 .given .1))
 
 content-cast-sealed-2 : (t : ℕ) → content-lts.Need-cast-sealed-2 (content-calls t) (content-at t) content.Post
 content-cast-sealed-2 t c =
     let at-d3 = c .before .before .before .before in
-    let at-object = at-d3 .before .before .before .before in
-    let at-x = at-object .before .before .before in
+    let at-single = at-d3 .before .before .before .before in
+    let at-x = at-single .before .before .before in
     let at-deeper = at-x .before .before in
     let at-if1 = at-deeper .before in
     let at-number-at = at-if1 .before in
     let at-what = at-number-at .before .before .before in
     let start = at-what .before .before .before .before .before .before in
-    record { fits = omega (arith, large-rises _ _ _ _ _ _ _ _ _ _ (start .pre .1 .0) (start .pre .1 .1) (at-what .what .given .1) (at-number-at .number-at .ensures) (start .pre .1 .2) (omega (arith, at-if1 .if1 .left)) _ (at-deeper .deeper .ensures .0) (at-deeper .deeper .ensures .1) (at-x .x .given .1) (at-object .object .ensures) (at-d3 .d3 .given .1)) }
+    record { fits = omega (arith, large-rises _ _ _ _ _ _ _ _ _ _ (start .pre .1 .0) (start .pre .1 .1) (at-what .what .given .1) (at-number-at .number-at .ensures) (start .pre .1 .2) (omega (arith, at-if1 .if1 .left)) _ (at-deeper .deeper .ensures .0) (at-x .x .given .1) (at-single .single .ensures) (at-d3 .d3 .given .1)) }
 
 content-sub-sealed-2 : (t : ℕ) → content-lts.Need-sub-sealed-2 (content-calls t) (content-at t) content.Post
 content-sub-sealed-2 t c =
     let at-d3 = c .before .before .before .before .before .before in
-    let at-object = at-d3 .before .before .before .before in
-    let at-x = at-object .before .before .before in
+    let at-single = at-d3 .before .before .before .before in
+    let at-x = at-single .before .before .before in
     let at-deeper = at-x .before .before in
     let at-if1 = at-deeper .before in
     let at-number-at = at-if1 .before in
     let at-what = at-number-at .before .before .before in
     let start = at-what .before .before .before .before .before .before in
-    omega (arith, large-rises _ _ _ _ _ _ _ _ _ _ (start .pre .1 .0) (start .pre .1 .1) (at-what .what .given .1) (at-number-at .number-at .ensures) (start .pre .1 .2) (omega (arith, at-if1 .if1 .left)) _ (at-deeper .deeper .ensures .0) (at-deeper .deeper .ensures .1) (at-x .x .given .1) (at-object .object .ensures) (at-d3 .d3 .given .1))
+    omega (arith, large-rises _ _ _ _ _ _ _ _ _ _ (start .pre .1 .0) (start .pre .1 .1) (at-what .what .given .1) (at-number-at .number-at .ensures) (start .pre .1 .2) (omega (arith, at-if1 .if1 .left)) _ (at-deeper .deeper .ensures .0) (at-x .x .given .1) (at-single .single .ensures) (at-d3 .d3 .given .1))
 
 content-cast-sealed-3 : (t : ℕ) → content-lts.Need-cast-sealed-3 (content-calls t) (content-at t) content.Post
 content-cast-sealed-3 t c =
     let at-d3 = c .before .before .before .before .before .before in
-    let at-object = at-d3 .before .before .before .before in
-    let at-x = at-object .before .before .before in
+    let at-single = at-d3 .before .before .before .before in
+    let at-x = at-single .before .before .before in
     let at-deeper = at-x .before .before in
     let at-if1 = at-deeper .before in
     let at-number-at = at-if1 .before in
     let at-what = at-number-at .before .before .before in
     let start = at-what .before .before .before .before .before .before in
-    record { fits = omega (arith, large-rises _ _ _ _ _ _ _ _ _ _ (start .pre .1 .0) (start .pre .1 .1) (at-what .what .given .1) (at-number-at .number-at .ensures) (start .pre .1 .2) (omega (arith, at-if1 .if1 .left)) _ (at-deeper .deeper .ensures .0) (at-deeper .deeper .ensures .1) (at-x .x .given .1) (at-object .object .ensures) (at-d3 .d3 .given .1)) }
+    record { fits = omega (arith, large-rises _ _ _ _ _ _ _ _ _ _ (start .pre .1 .0) (start .pre .1 .1) (at-what .what .given .1) (at-number-at .number-at .ensures) (start .pre .1 .2) (omega (arith, at-if1 .if1 .left)) _ (at-deeper .deeper .ensures .0) (at-x .x .given .1) (at-single .single .ensures) (at-d3 .d3 .given .1)) }
 
 content-sealed-requires-2 : (t : ℕ) → content-lts.Need-sealed-requires-2 (content-calls t) (content-at t) content.Post
 content-sealed-requires-2 t c κs =
@@ -450,27 +463,27 @@ content-returns-6 t c =
 content-returns-7 : (t : ℕ) → content-lts.Need-returns-7 (content-calls t) (content-at t) content.Post
 content-returns-7 t c =
     let at-f3 = c .before in
-    let at-object = at-f3 .before .before .before .before in
-    let at-x = at-object .before .before .before in
+    let at-single = at-f3 .before .before .before .before in
+    let at-x = at-single .before .before .before in
     let at-deeper = at-x .before .before in
     let at-if1 = at-deeper .before in
     let at-number-at = at-if1 .before in
     let at-what = at-number-at .before .before .before in
     let start = at-what .before .before .before .before .before .before in
-    large-refused _ _ _ _ _ _ _ _ _ _ (start .pre .1 .0) (start .pre .1 .1) (at-what .what .given .1) (at-number-at .number-at .ensures) (start .pre .1 .2) (omega (arith, at-if1 .if1 .left)) _ (at-deeper .deeper .ensures .0) (at-deeper .deeper .ensures .1) (at-x .x .given .1) (at-object .object .ensures) (at-f3 .f3 .given .1)
+    large-refused _ _ _ _ _ _ _ _ _ _ (start .pre .1 .0) (start .pre .1 .1) (at-what .what .given .1) (at-number-at .number-at .ensures) (start .pre .1 .2) (omega (arith, at-if1 .if1 .left)) _ (at-deeper .deeper .ensures .0) (at-x .x .given .1) (at-single .single .ensures) (at-f3 .f3 .given .1)
 
 content-returns-8 : (t : ℕ) → content-lts.Need-returns-8 (content-calls t) (content-at t) content.Post
 content-returns-8 t c =
     let at-sealed2 = c .before .before in
     let at-d3 = at-sealed2 .before .before .before .before .before .before .before in
-    let at-object = at-d3 .before .before .before .before in
-    let at-x = at-object .before .before .before in
+    let at-single = at-d3 .before .before .before .before in
+    let at-x = at-single .before .before .before in
     let at-deeper = at-x .before .before in
     let at-if1 = at-deeper .before in
     let at-number-at = at-if1 .before in
     let at-what = at-number-at .before .before .before in
     let start = at-what .before .before .before .before .before .before in
-    large-sealed _ _ _ _ _ _ _ _ _ _ (start .pre .1 .0) (start .pre .1 .1) (at-what .what .given .1) (at-number-at .number-at .ensures) (start .pre .1 .2) (omega (arith, at-if1 .if1 .left)) _ (at-deeper .deeper .ensures .0) (at-deeper .deeper .ensures .1) (at-x .x .given .1) (at-object .object .ensures) (at-d3 .d3 .given .1) refl refl (at-sealed2 .sealed2 .ensures)
+    large-sealed _ _ _ _ _ _ _ _ _ _ (start .pre .1 .0) (start .pre .1 .1) (at-what .what .given .1) (at-number-at .number-at .ensures) (start .pre .1 .2) (omega (arith, at-if1 .if1 .left)) _ (at-deeper .deeper .ensures .0) (at-x .x .given .1) (at-single .single .ensures) (at-d3 .d3 .given .1) refl refl (at-sealed2 .sealed2 .ensures)
 
 -- ---- elements: a vector's elements, or what an object holds
 
@@ -637,7 +650,7 @@ object-mul-length : (t : ℕ) → object-lts.Need-mul-length (object-calls t) (o
 object-mul-length t c =
     let at-number-at = c .before in
     let start = at-number-at .before .before .before .before .before .before .before .before .before .before .before .before in
-    let l = object-length _ _ _ _ (start .pre .1 .1) (row-size (start .pre .1 .0) _ (start .pre .1 .0 .in-use) (at-number-at .number-at .ensures)) in record { fits = omega (arith, l .0) }
+    let l = object-length _ _ (start .pre .1 .1) (ap (λ (size : ℕ). start .args .x .count * size) (row-size (start .pre .1 .0) _ (start .pre .1 .0 .in-use) (at-number-at .number-at .ensures))) in record { fits = omega (arith, l .0) }
 
 object-sub-put-zeros : (t : ℕ) → object-lts.Need-sub-put-zeros (object-calls t) (object-at t) object.Post
 object-sub-put-zeros t c =
@@ -648,13 +661,13 @@ object-add-put-zeros : (t : ℕ) → object-lts.Need-add-put-zeros (object-calls
 object-add-put-zeros t c =
     let at-number-at = c .before .before .before in
     let start = at-number-at .before .before .before .before .before .before .before .before .before .before .before .before in
-    let l = object-length _ _ _ _ (start .pre .1 .1) (row-size (start .pre .1 .0) _ (start .pre .1 .0 .in-use) (at-number-at .number-at .ensures)) in record { fits = omega (arith, l .0, l .2) }
+    let l = object-length _ _ (start .pre .1 .1) (ap (λ (size : ℕ). start .args .x .count * size) (row-size (start .pre .1 .0) _ (start .pre .1 .0 .in-use) (at-number-at .number-at .ensures))) in record { fits = omega (arith, l .0, l .2) }
 
 object-put-zeros-requires : (t : ℕ) → object-lts.Need-put-zeros-requires (object-calls t) (object-at t) object.Post
 object-put-zeros-requires t c κs =
     let at-number-at = c .before .before .before in
     let start = at-number-at .before .before .before .before .before .before .before .before .before .before .before .before in
-    let l = object-length _ _ _ _ (start .pre .1 .1) (row-size (start .pre .1 .0) _ (start .pre .1 .0 .in-use) (at-number-at .number-at .ensures)) in omega (arith, l .0, l .2)
+    let l = object-length _ _ (start .pre .1 .1) (ap (λ (size : ℕ). start .args .x .count * size) (row-size (start .pre .1 .0) _ (start .pre .1 .0 .in-use) (at-number-at .number-at .ensures))) in omega (arith, l .0, l .2)
 
 object-returns : (t : ℕ) → object-lts.Need-returns (object-calls t) (object-at t) object.Post
 object-returns t c =
@@ -663,12 +676,12 @@ object-returns t c =
     let at-elements = at-number-at .before .before .before .before in
     let at-least = at-elements .before .before in
     let start = at-least .before .before .before .before .before .before in
-    object-written _ _ _ (start .args .out .now) _ _ _ _ _ (start .pre .1 .1) (at-elements .elements .ensures) (at-least .least .ensures) (row-size (start .pre .1 .0) _ (start .pre .1 .0 .in-use) (at-number-at .number-at .ensures)) (at-put-zeros .put-zeros .ensures)
+    object-written _ (start .args .out .now) _ _ _ _ (writeElements (start .args .rows .now) (start .args .members .now) (start .args .depth) (start .args .row) (start .args .x .count)) (start .pre .1 .1) (at-elements .elements .ensures) (at-least .least .ensures) (ap (λ (size : ℕ). start .args .x .count * size) (row-size (start .pre .1 .0) _ (start .pre .1 .0 .in-use) (at-number-at .number-at .ensures))) (at-put-zeros .put-zeros .ensures) refl
 
 -- ---- out_of_line: vector, box, table and union
 
 abbrev out-of-line-calls : ℕ → out-of-line-lts.Claims
-out-of-line-calls t = (number-at-reads.Asked, number-at-reads.Learnt, vector-opened-reads.Asked, vector-opened-reads.Learnt, object-below t, object.Post, box-opened-reads.Asked, box-opened-reads.Learnt, table-opened-reads.Asked, table-opened-reads.Learnt, least-reads.Asked, least-reads.Learnt, envelopes-below t, envelopes.Post, union-member-reads.Asked, union-member-reads.Learnt, content-below t, content.Post)
+out-of-line-calls t = (number-at-reads.Asked, number-at-reads.Learnt, vector-opened-reads.Asked, vector-opened-reads.Learnt, object-below t, object.Post, passed-on-reads.Asked, passed-on-reads.Learnt, box-opened-reads.Asked, box-opened-reads.Learnt, single-below t, single.Post, table-opened-reads.Asked, table-opened-reads.Learnt, least-reads.Asked, least-reads.Learnt, envelopes-below t, envelopes.Post, union-member-reads.Asked, union-member-reads.Learnt, content-below t, content.Post)
 
 out-of-line-vector-opened-requires : (t : ℕ) → out-of-line-lts.Need-vector-opened-requires (out-of-line-calls t) (out-of-line-at t) out-of-line.Post
 out-of-line-vector-opened-requires t c κs =
@@ -726,7 +739,7 @@ out-of-line-returns-2 t c =
 
 out-of-line-returns-3 : (t : ℕ) → out-of-line-lts.Need-returns-3 (out-of-line-calls t) (out-of-line-at t) out-of-line.Post
 out-of-line-returns-3 t c =
-    let at-object = c .before .before in
+    let at-object = c .before .before .before in
     let at-x = at-object .before .before .before in
     let at-vector-opened = at-x .before .before .before .before in
     let at-number-at5 = at-vector-opened .before .before in
@@ -736,7 +749,7 @@ out-of-line-returns-3 t c =
     let at-number-at2 = at-number-at3 .before in
     let at-number-at = at-number-at2 .before in
     let start = at-number-at .before .before .before .before .before in
-    vector-done _ _ _ _ _ _ _ _ _ _ _ (at-number-at .number-at .ensures) (start .pre .1 .2) (at-if1 .if1 .taken) (at-number-at2 .number-at2 .ensures) (at-number-at3 .number-at3 .ensures) (at-number-at4 .number-at4 .ensures) (start .pre .1 .0) (at-number-at5 .number-at5 .ensures) (at-vector-opened .vector-opened .ensures .0) (at-x .x .given .1) (at-object .object .ensures)
+    rw (c .passed-on .ensures) (vector-done _ _ _ _ _ _ _ _ _ _ _ (at-number-at .number-at .ensures) (start .pre .1 .2) (at-if1 .if1 .taken) (at-number-at2 .number-at2 .ensures) (at-number-at3 .number-at3 .ensures) (at-number-at4 .number-at4 .ensures) (start .pre .1 .0) (at-number-at5 .number-at5 .ensures) (at-vector-opened .vector-opened .ensures .0) (at-x .x .given .1) (at-object .object .ensures))
 
 out-of-line-box-opened-requires : (t : ℕ) → out-of-line-lts.Need-box-opened-requires (out-of-line-calls t) (out-of-line-at t) out-of-line.Post
 out-of-line-box-opened-requires t c κs =
@@ -747,14 +760,14 @@ out-of-line-box-opened-requires t c κs =
     let start = at-number-at .before .before .before .before .before in
     let a = box-record _ _ _ (at-number-at .number-at .ensures) (start .pre .1 .2) (at-if2 .if2 .taken) in (ask-stands a, omega (arith, a .inside, a .free), size-small (start .pre .1 .0) _ (box-in-use (start .pre .1 .0) (at-number-at .number-at .ensures) (at-number-at2 .number-at2 .ensures) (at-if2 .if2 .taken)) (at-number-at6 .number-at6 .ensures))
 
-out-of-line-sub-object-2 : (t : ℕ) → out-of-line-lts.Need-sub-object-2 (out-of-line-calls t) (out-of-line-at t) out-of-line.Post
-out-of-line-sub-object-2 t c =
+out-of-line-sub-single : (t : ℕ) → out-of-line-lts.Need-sub-single (out-of-line-calls t) (out-of-line-at t) out-of-line.Post
+out-of-line-sub-single t c =
     let at-x2 = c .before .before in
     let at-box-opened = at-x2 .before .before .before .before in
-    omega (arith, level-left _ _ (at-box-opened .box-opened .ensures .2) (at-x2 .x2 .given .1))
+    omega (arith, level-left _ _ (at-box-opened .box-opened .ensures .1) (at-x2 .x2 .given .1))
 
-out-of-line-object-requires-2 : (t : ℕ) → out-of-line-lts.Need-object-requires-2 (out-of-line-calls t) (out-of-line-at t) out-of-line.Post
-out-of-line-object-requires-2 t c κs =
+out-of-line-single-requires : (t : ℕ) → out-of-line-lts.Need-single-requires (out-of-line-calls t) (out-of-line-at t) out-of-line.Post
+out-of-line-single-requires t c κs =
     let at-x2 = c .before .before in
     let at-box-opened = at-x2 .before .before .before .before in
     let at-number-at6 = at-box-opened .before .before in
@@ -762,7 +775,7 @@ out-of-line-object-requires-2 t c κs =
     let at-number-at2 = at-if2 .before .before .before .before in
     let at-number-at = at-number-at2 .before in
     let start = at-number-at .before .before .before .before .before in
-    let l = level-left _ _ (at-box-opened .box-opened .ensures .2) (at-x2 .x2 .given .1) in let used = box-in-use (start .pre .1 .0) (at-number-at .number-at .ensures) (at-number-at2 .number-at2 .ensures) (at-if2 .if2 .taken) in let k = box-claimed _ _ _ _ _ _ _ _ _ _ _ (at-number-at .number-at .ensures) (start .pre .1 .2) (at-if2 .if2 .taken) (at-number-at2 .number-at2 .ensures) (start .pre .1 .0) (at-number-at6 .number-at6 .ensures) (at-box-opened .box-opened .ensures .0) (at-box-opened .box-opened .ensures .1) (at-x2 .x2 .given .1) in let few = few-elements (start .pre .1 .0) _ used _ (object-few _ _ k) in (omega (arith, start .pre .0, l, few, row-in-use (start .pre .1 .0) _ used), (ready-at (start .pre .1 .0) _ _ (omega arith) used, k))
+    let l = level-left _ _ (at-box-opened .box-opened .ensures .1) (at-x2 .x2 .given .1) in let used = box-in-use (start .pre .1 .0) (at-number-at .number-at .ensures) (at-number-at2 .number-at2 .ensures) (at-if2 .if2 .taken) in let k = box-claimed _ _ _ _ _ _ _ _ _ _ _ (at-number-at .number-at .ensures) (start .pre .1 .2) (at-if2 .if2 .taken) (at-number-at2 .number-at2 .ensures) (start .pre .1 .0) (at-number-at6 .number-at6 .ensures) (at-box-opened .box-opened .ensures .0) (at-x2 .x2 .given .1) in (omega (arith, start .pre .0, l, row-in-use (start .pre .1 .0) _ used), (ready-at (start .pre .1 .0) _ _ (omega arith) used, k))
 
 out-of-line-returns-4 : (t : ℕ) → out-of-line-lts.Need-returns-4 (out-of-line-calls t) (out-of-line-at t) out-of-line.Post
 out-of-line-returns-4 t c =
@@ -788,15 +801,15 @@ out-of-line-returns-5 t c =
 
 out-of-line-returns-6 : (t : ℕ) → out-of-line-lts.Need-returns-6 (out-of-line-calls t) (out-of-line-at t) out-of-line.Post
 out-of-line-returns-6 t c =
-    let at-object2 = c .before .before in
-    let at-x2 = at-object2 .before .before .before in
+    let at-single = c .before .before .before in
+    let at-x2 = at-single .before .before .before in
     let at-box-opened = at-x2 .before .before .before .before in
     let at-number-at6 = at-box-opened .before .before in
     let at-if2 = at-number-at6 .before .before in
     let at-number-at2 = at-if2 .before .before .before .before in
     let at-number-at = at-number-at2 .before in
     let start = at-number-at .before .before .before .before .before in
-    box-done _ _ _ _ _ _ _ _ _ _ _ (at-number-at .number-at .ensures) (start .pre .1 .2) (at-if2 .if2 .taken) (at-number-at2 .number-at2 .ensures) (start .pre .1 .0) (at-number-at6 .number-at6 .ensures) (at-box-opened .box-opened .ensures .0) (at-box-opened .box-opened .ensures .1) (at-x2 .x2 .given .1) (at-object2 .object2 .ensures)
+    rw (c .passed-on2 .ensures) (box-done _ _ _ _ _ _ _ _ _ _ _ (at-number-at .number-at .ensures) (start .pre .1 .2) (at-if2 .if2 .taken) (at-number-at2 .number-at2 .ensures) (start .pre .1 .0) (at-number-at6 .number-at6 .ensures) (at-box-opened .box-opened .ensures .0) (at-x2 .x2 .given .1) (at-single .single .ensures))
 
 out-of-line-table-opened-requires : (t : ℕ) → out-of-line-lts.Need-table-opened-requires (out-of-line-calls t) (out-of-line-at t) out-of-line.Post
 out-of-line-table-opened-requires t c κs =
@@ -849,14 +862,14 @@ out-of-line-returns-8 t c =
 
 out-of-line-returns-9 : (t : ℕ) → out-of-line-lts.Need-returns-9 (out-of-line-calls t) (out-of-line-at t) out-of-line.Post
 out-of-line-returns-9 t c =
-    let at-envelopes = c .before .before in
+    let at-envelopes = c .before .before .before in
     let at-least = at-envelopes .before .before in
     let at-x3 = at-least .before .before .before in
     let at-table-opened = at-x3 .before .before .before .before in
     let at-if3 = at-table-opened .before .before in
     let at-number-at = at-if3 .before .before .before .before .before .before in
     let start = at-number-at .before .before .before .before .before in
-    table-done _ _ _ _ _ _ _ _ _ _ _ (at-number-at .number-at .ensures) (start .pre .1 .2) (at-if3 .if3 .taken) (at-table-opened .table-opened .ensures .0) (at-x3 .x3 .given .1) _ (at-least .least .ensures) (at-envelopes .envelopes .ensures) refl
+    rw (c .passed-on3 .ensures) (table-done _ _ _ _ _ _ _ _ _ _ _ (at-number-at .number-at .ensures) (start .pre .1 .2) (at-if3 .if3 .taken) (at-table-opened .table-opened .ensures .0) (at-x3 .x3 .given .1) _ (at-least .least .ensures) (at-envelopes .envelopes .ensures) refl)
 
 out-of-line-union-member-requires : (t : ℕ) → out-of-line-lts.Need-union-member-requires (out-of-line-calls t) (out-of-line-at t) out-of-line.Post
 out-of-line-union-member-requires t c κs =
@@ -919,7 +932,7 @@ out-of-line-returns-11 t c =
 
 out-of-line-returns-12 : (t : ℕ) → out-of-line-lts.Need-returns-12 (out-of-line-calls t) (out-of-line-at t) out-of-line.Post
 out-of-line-returns-12 t c =
-    let at-content = c .before .before in
+    let at-content = c .before .before .before in
     let at-what = at-content .before .before .before in
     let at-union-member = at-what .before .before .before .before in
     let at-if3 = at-union-member .before .before in
@@ -930,7 +943,48 @@ out-of-line-returns-12 t c =
     let at-number-at2 = at-number-at3 .before in
     let at-number-at = at-number-at2 .before in
     let start = at-number-at .before .before .before .before .before in
-    let q = union-else (start .pre .1 .0) (at-number-at .number-at .ensures) (start .pre .1 .1) (at-if1 .if1 .left) (at-if2 .if2 .left) (at-if3 .if3 .left) in union-done _ _ _ _ _ _ _ _ _ _ _ (at-number-at .number-at .ensures) (at-number-at2 .number-at2 .ensures) (at-number-at3 .number-at3 .ensures) (at-number-at4 .number-at4 .ensures) q (start .pre .1 .2) (at-union-member .union-member .ensures .0) (at-what .what .given .1) (at-content .content .ensures)
+    let q = union-else (start .pre .1 .0) (at-number-at .number-at .ensures) (start .pre .1 .1) (at-if1 .if1 .left) (at-if2 .if2 .left) (at-if3 .if3 .left) in rw (c .passed-on4 .ensures) (union-done _ _ _ _ _ _ _ _ _ _ _ (at-number-at .number-at .ensures) (at-number-at2 .number-at2 .ensures) (at-number-at3 .number-at3 .ensures) (at-number-at4 .number-at4 .ensures) q (start .pre .1 .2) (at-union-member .union-member .ensures .0) (at-what .what .given .1) (at-content .content .ensures))
+
+-- ---- single: a claimed object of one value
+
+abbrev single-calls : ℕ → single-lts.Claims
+single-calls t = (least-reads.Asked, least-reads.Learnt, value-below t, value.Post, number-at-reads.Asked, number-at-reads.Learnt, put-zeros-reads.Asked, put-zeros-reads.Learnt, passed-on-reads.Asked, passed-on-reads.Learnt)
+
+single-sub-least : (t : ℕ) → single-lts.Need-sub-least (single-calls t) (single-at t) single.Post
+single-sub-least t c =
+    let start = c .before .before .before .before .before in
+    omega (arith, start .pre .1 .1 .within)
+
+single-value-requires : (t : ℕ) → single-lts.Need-value-requires (single-calls t) (single-at t) single.Post
+single-value-requires t c κs =
+    let start = c .before .before .before .before .before .before .before in
+    (omega (arith, start .pre .0), (start .pre .1 .0, object-asks _ _ _ (start .pre .1 .1)))
+
+single-sub-put-zeros : (t : ℕ) → single-lts.Need-sub-put-zeros (single-calls t) (single-at t) single.Post
+single-sub-put-zeros t c =
+    let start = c .before .before .before .before .before .before .before .before .before .before .before .before .before .before in
+    omega (arith, start .pre .1 .1 .within)
+
+single-add-put-zeros : (t : ℕ) → single-lts.Need-add-put-zeros (single-calls t) (single-at t) single.Post
+single-add-put-zeros t c =
+    let at-number-at = c .before .before in
+    let start = at-number-at .before .before .before .before .before .before .before .before .before .before .before .before in
+    let l = object-length _ _ (start .pre .1 .1) (row-size (start .pre .1 .0) _ (start .pre .1 .0 .in-use) (at-number-at .number-at .ensures)) in record { fits = omega (arith, l .0, l .2) }
+
+single-put-zeros-requires : (t : ℕ) → single-lts.Need-put-zeros-requires (single-calls t) (single-at t) single.Post
+single-put-zeros-requires t c κs =
+    let at-number-at = c .before .before in
+    let start = at-number-at .before .before .before .before .before .before .before .before .before .before .before .before in
+    let l = object-length _ _ (start .pre .1 .1) (row-size (start .pre .1 .0) _ (start .pre .1 .0 .in-use) (at-number-at .number-at .ensures)) in omega (arith, l .0, l .2)
+
+single-returns : (t : ℕ) → single-lts.Need-returns (single-calls t) (single-at t) single.Post
+single-returns t c =
+    let at-put-zeros = c .before .before .before in
+    let at-number-at = at-put-zeros .before .before .before in
+    let at-value = at-number-at .before .before .before .before in
+    let at-least = at-value .before .before in
+    let start = at-least .before .before .before .before .before .before in
+    object-written _ (start .args .out .now) _ _ _ _ (writeRow (start .args .rows .now) (start .args .members .now) (start .args .depth) (start .args .row)) (start .pre .1 .1) (at-value .value .ensures) (at-least .least .ensures) (row-size (start .pre .1 .0) _ (start .pre .1 .0 .in-use) (at-number-at .number-at .ensures)) (at-put-zeros .put-zeros .ensures) (c .passed-on .ensures)
 
 -- ---- value: a value of any kind
 
@@ -1008,10 +1062,11 @@ value-out-of-line-requires t c κs =
     let start = at-number-at .before .before .before .before .before in
     (omega (arith, start .pre .0), (start .pre .1 .0, outside-left (start .args .rows .now) (start .args .members .now) (start .args .row) (at-number-at .number-at .ensures) (at-if1 .if1 .left) (at-if2 .if2 .left) (at-if3 .if3 .left) (at-if4 .if4 .left) (at-if7 .if7 .left), start .pre .1 .1))
 
--- ---- all seven
+-- ---- all eight
 
-pub +composite+content+elements+envelopes+object+out-of-line+value-spec : {M : Type 1} → statement M
-+composite+content+elements+envelopes+object+out-of-line+value-spec =
+pub +composite+content+elements+envelopes+object+out-of-line+single+value-spec :
+    {M : Type 1} → statement M
++composite+content+elements+envelopes+object+out-of-line+single+value-spec =
     close
     μ-composite
     μ-content
@@ -1019,6 +1074,7 @@ pub +composite+content+elements+envelopes+object+out-of-line+value-spec : {M : T
     μ-envelopes
     μ-object
     μ-out-of-line
+    μ-single
     μ-value
     (λ t. composite-lts.spec (composite-calls t)
     (composite-at t)
@@ -1026,12 +1082,13 @@ pub +composite+content+elements+envelopes+object+out-of-line+value-spec : {M : T
     composite-Inv-loop
     composite-μ-loop
     (composite-loop-holds t) (λ c κs. search needs) (λ c. search needs) (composite-sub-put-zeros t)
-    (composite-put-zeros-requires t) (composite-add-level t) (composite-loop-less t) (composite-loop-again t) (λ c. search needs)
-    (λ c. search needs) (composite-array-set-from-kept t) (λ c. search needs) (composite-loop-less-2 t) (composite-loop-again-2 t)
-    (λ c. search needs) (composite-value-requires t) (λ c. search needs) (λ c κs. search needs) (λ c. search needs)
-    (λ c. search needs) (composite-loop-less-3 t) (composite-loop-again-3 t) (λ c. search needs) (λ c. search needs)
-    (composite-returns t) (λ c. search needs) (composite-sub-around t) (λ c. search needs) (λ c. search needs)
-    (composite-loop-less-4 t) (composite-loop-again-4 t) (λ c. search needs) (λ c. search needs) (composite-returns-2 t))
+    (composite-put-zeros-requires t) (composite-add-level t) (composite-loop-less t) (composite-loop-again t)
+    (λ c. search needs) (λ c. search needs) (composite-array-set-from-kept t) (λ c. search needs) (composite-loop-less-2 t)
+    (composite-loop-again-2 t) (λ c. search needs) (composite-value-requires t) (λ c. search needs) (λ c κs. search needs)
+    (λ c. search needs) (λ c. search needs) (composite-loop-less-3 t) (composite-loop-again-3 t) (λ c. search needs)
+    (λ c. search needs) (composite-returns t) (λ c. search needs) (composite-sub-around t) (λ c. search needs)
+    (λ c. search needs) (composite-loop-less-4 t) (composite-loop-again-4 t) (λ c. search needs) (λ c. search needs)
+    (composite-returns-2 t))
     (λ t. content-lts.spec (content-calls t)
     (content-at t)
     content.Post
@@ -1039,7 +1096,7 @@ pub +composite+content+elements+envelopes+object+out-of-line+value-spec : {M : T
     (content-sub-refused t) (λ c κs. search needs) (content-returns t) (content-sub-value t) (content-value-requires t)
     (λ c. search needs) (λ c. search needs) (content-sub-sealed t) (content-cast-sealed t) (content-sealed-requires t)
     (λ c. search needs) (content-returns-2 t) (λ c. search needs) (content-returns-3 t) (content-deeper-requires t)
-    (λ c. search needs) (λ c. search needs) (λ c. search needs) (content-sub-object t) (content-object-requires t)
+    (λ c. search needs) (λ c. search needs) (λ c. search needs) (content-sub-single t) (content-single-requires t)
     (λ c. search needs) (λ c. search needs) (content-sub-bytes t) (content-cast-sealed-2 t) (content-sub-sealed-2 t)
     (content-cast-sealed-3 t) (content-sealed-requires-2 t) (λ c. search needs) (content-returns-4 t) (content-returns-5 t)
     (content-returns-6 t) (λ c. search needs) (content-returns-7 t) (λ c. search needs) (content-returns-8 t))
@@ -1050,9 +1107,9 @@ pub +composite+content+elements+envelopes+object+out-of-line+value-spec : {M : T
     elements-μ-loop
     (λ c. search needs) (λ c κs. search needs) (λ c. search needs) (λ c. search needs) (λ c κs. search needs)
     (elements-numbers-requires t) (λ c. search needs) (elements-returns t) (λ c κs. search needs) (λ c. search needs)
-    (λ c κs. search needs) (elements-planned-requires t) (λ c. search needs) (elements-returns-2 t)
-    (elements-loop-holds t) (elements-value-requires t) (λ c. search needs) (λ c. search needs) (λ c. search needs)
-    (elements-returns-3 t) (λ c. search needs) (λ c. search needs) (λ c. search needs) (elements-loop-again t) (λ c. search needs)
+    (λ c κs. search needs) (elements-planned-requires t) (λ c. search needs) (elements-returns-2 t) (elements-loop-holds t)
+    (elements-value-requires t) (λ c. search needs) (λ c. search needs) (λ c. search needs) (elements-returns-3 t)
+    (λ c. search needs) (λ c. search needs) (λ c. search needs) (elements-loop-again t) (λ c. search needs)
     (elements-returns-4 t))
     (λ t. envelopes-lts.spec (envelopes-calls t)
     (envelopes-at t)
@@ -1075,21 +1132,28 @@ pub +composite+content+elements+envelopes+object+out-of-line+value-spec : {M : T
     (λ t. out-of-line-lts.spec (out-of-line-calls t)
     (out-of-line-at t)
     out-of-line.Post
-    (λ c. search needs) (λ c κs. search needs) (λ c. search needs) (λ c. search needs) (λ c κs. search needs) (λ c. search needs)
-    (λ c. search needs) (λ c. search needs) (λ c κs. search needs) (λ c. search needs) (λ c. search needs) (λ c κs. search needs)
-    (λ c κs. search needs) (λ c. search needs) (out-of-line-vector-opened-requires t) (λ c. search needs) (λ c. search needs)
-    (λ c. search needs) (out-of-line-sub-object t) (out-of-line-object-requires t) (λ c. search needs) (out-of-line-returns t)
-    (λ c. search needs) (out-of-line-returns-2 t) (λ c. search needs) (out-of-line-returns-3 t) (λ c κs. search needs)
-    (λ c. search needs) (out-of-line-box-opened-requires t) (λ c. search needs) (λ c. search needs) (λ c. search needs)
-    (out-of-line-sub-object-2 t) (out-of-line-object-requires-2 t) (λ c. search needs) (out-of-line-returns-4 t)
-    (λ c. search needs) (out-of-line-returns-5 t) (λ c. search needs) (out-of-line-returns-6 t)
-    (out-of-line-table-opened-requires t) (λ c. search needs) (λ c. search needs) (λ c. search needs) (out-of-line-sub-least t)
-    (λ c κs. search needs) (λ c. search needs) (λ c. search needs) (λ c. search needs) (out-of-line-sub-envelopes-2 t)
-    (out-of-line-envelopes-requires t) (λ c. search needs) (out-of-line-returns-7 t) (λ c. search needs) (out-of-line-returns-8 t)
-    (λ c. search needs) (out-of-line-returns-9 t) (λ c. search needs) (out-of-line-union-member-requires t) (λ c. search needs)
-    (λ c. search needs) (λ c. search needs) (out-of-line-add-content t) (out-of-line-content-requires t) (λ c. search needs)
+    (λ c. search needs) (λ c κs. search needs) (λ c. search needs) (λ c. search needs) (λ c κs. search needs)
+    (λ c. search needs) (λ c. search needs) (λ c. search needs) (λ c κs. search needs) (λ c. search needs) (λ c. search needs)
+    (λ c κs. search needs) (λ c κs. search needs) (λ c. search needs) (out-of-line-vector-opened-requires t) (λ c. search needs)
+    (λ c. search needs) (λ c. search needs) (out-of-line-sub-object t) (out-of-line-object-requires t) (λ c κs. search needs)
+    (λ c. search needs) (out-of-line-returns t) (λ c. search needs) (out-of-line-returns-2 t) (λ c. search needs)
+    (out-of-line-returns-3 t) (λ c κs. search needs) (λ c. search needs) (out-of-line-box-opened-requires t) (λ c. search needs)
+    (λ c. search needs) (λ c. search needs) (out-of-line-sub-single t) (out-of-line-single-requires t) (λ c κs. search needs)
+    (λ c. search needs) (out-of-line-returns-4 t) (λ c. search needs) (out-of-line-returns-5 t) (λ c. search needs)
+    (out-of-line-returns-6 t) (out-of-line-table-opened-requires t) (λ c. search needs) (λ c. search needs) (λ c. search needs)
+    (out-of-line-sub-least t) (λ c κs. search needs) (λ c. search needs) (λ c. search needs) (λ c. search needs)
+    (out-of-line-sub-envelopes-2 t) (out-of-line-envelopes-requires t) (λ c κs. search needs) (λ c. search needs)
+    (out-of-line-returns-7 t) (λ c. search needs) (out-of-line-returns-8 t) (λ c. search needs) (out-of-line-returns-9 t)
+    (λ c. search needs) (out-of-line-union-member-requires t) (λ c. search needs) (λ c. search needs) (λ c. search needs)
+    (out-of-line-add-content t) (out-of-line-content-requires t) (λ c κs. search needs) (λ c. search needs)
     (out-of-line-returns-10 t) (λ c. search needs) (out-of-line-returns-11 t) (λ c. search needs) (out-of-line-returns-12 t))
-    (λ t. value-lts.spec (value-calls t)
+    (λ t. single-lts.spec (single-calls t)
+    (single-at t)
+    single.Post
+    (single-sub-least t) (λ c κs. search needs) (λ c. search needs) (λ c. search needs) (λ c. search needs)
+    (single-value-requires t) (λ c κs. search needs) (λ c. search needs) (single-sub-put-zeros t) (single-add-put-zeros t)
+    (λ c. search needs) (single-put-zeros-requires t) (λ c κs. search needs) (λ c. search needs) (single-returns t))
+    λ t. value-lts.spec (value-calls t)
     (value-at t)
     value.Post
     (λ c. search needs) (λ c κs. search needs) (λ c. search needs) (λ c. search needs) (λ c κs. search needs)
@@ -1100,4 +1164,4 @@ pub +composite+content+elements+envelopes+object+out-of-line+value-spec : {M : T
     (λ c. search needs) (λ c κs. search needs) (λ c. search needs) (value-numbers-requires t) (λ c. search needs)
     (value-returns-6 t) (λ c. search needs) (λ c. search needs) (λ c κs. search needs) (λ c. search needs) (λ c. search needs)
     (λ c κs. search needs) (value-string-requires t) (λ c. search needs) (value-returns-7 t) (value-out-of-line-requires t)
-    (λ c. search needs) (λ c. search needs))
+    (λ c. search needs) (λ c. search needs)
