@@ -25,6 +25,10 @@ answer c (went next used values trace) =
     On (record { next = next; handles = used; values = c .values + length values; objects = c .objects + length (objectList trace) })
 answer c (stopped f values trace) = Refused f
 
+-- A cursor of four numbers.
+abbrev pub cursorAt : (next handles given listed : ℕ) → Cursor
+cursorAt next handles given listed = record { next = next; handles = handles; values = given; objects = listed }
+
 -- A cursor after one value number.
 abbrev pub gaveOne : Cursor → Cursor
 gaveOne c = record { next = c .next; handles = c .handles; values = c .values + 1; objects = c .objects }

@@ -37,6 +37,17 @@ pub fn refused(number: u32, at: usize) -> Walked
     Walked::Refused(fault_at(number, at))
 }
 
+// A callee's answer, made anew from its parts: copied whole, it would be loaded in other pieces than it was stored in, which
+// costs more than the call.
+pub fn passed_on(answer: Walked) -> Walked
+    ensures { λ r. ⌜ r ≡ answer ⌝ }
+{
+    match answer {
+        Walked::On(c) => Walked::On(c),
+        Walked::Refused(f) => Walked::Refused(f),
+    }
+}
+
 // One value number, stored where there is room and counted all the same.
 pub fn gave(values: &mut [u64], x: u64, c: Cursor) -> Cursor
     requires { ⌜ c .values < 4294967296 ⌝ }

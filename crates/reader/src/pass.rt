@@ -82,7 +82,10 @@ fn primary(
             32,
             root,
             0,
-            c,
+            c.next,
+            c.handles,
+            c.values,
+            c.objects,
         ),
     }
 }

@@ -6,7 +6,7 @@ ghost use Prim.Native.Nat.{_*_, _<_};
 ghost use lib.ListN.{length};
 ghost use Rattle.rules.specs.TypeTable.{typeTable, kindAt};
 ghost use Rattle.rules.specs.Sizes.{sizeOf};
-ghost use Rattle.reader.specs.Doing.{Ask};
+ghost use Rattle.reader.specs.Doing.{Ask, cursorAt};
 ghost use Rattle.nesting.specs.Nesting.{hasParts};
 ghost use Rattle.nesting.specs.Ordinals.{OrdinalFits};
 ghost use Rattle.nesting.specs.Ready.{Ready, Outside};
@@ -15,6 +15,7 @@ use crate::claims::fill_at;
 use crate::cursor::Cursor;
 use crate::cursor::Walked;
 use crate::cursor::gave;
+use crate::cursor::passed_on;
 use crate::cursor::refused;
 use crate::envelopes::Member;
 use crate::envelopes::known_opened;
@@ -36,7 +37,7 @@ use nesting::NESTED;
 use nesting::Ordinal;
 use nesting::Step;
 
-// The value of a row at a place.
+// The value of a row at a place. The cursor comes as four numbers: as a struct it would go through memory at each level.
 pub fn value(
     rows: &[u32],
     members: &[u32],
@@ -49,12 +50,21 @@ pub fn value(
     depth: usize,
     row: usize,
     at: usize,
-    c: Cursor,
+    next: usize,
+    handles: usize,
+    given: usize,
+    listed: usize,
 ) -> Walked
     requires { ⌜ Ready (now rows) (now members) (now sizes) (now alignments) depth row
-        × Ask (length (now bytes)) held (sizeOf (typeTable (now rows) (now members)) row) at c ⌝ }
-    ensures { λ r. ⌜ ValueDid (now (rows .entry)) (now (members .entry)) (now (bytes .entry)) held depth (now (values .entry)) (now (values .exit)) (now (objects .entry)) (now (objects .exit)) at c row r ⌝ }
+        × Ask (length (now bytes)) held (sizeOf (typeTable (now rows) (now members)) row) at (cursorAt next handles given listed) ⌝ }
+    ensures { λ r. ⌜ ValueDid (now (rows .entry)) (now (members .entry)) (now (bytes .entry)) held depth (now (values .entry)) (now (values .exit)) (now (objects .entry)) (now (objects .exit)) at (cursorAt next handles given listed) row r ⌝ }
 {
+    let c = Cursor {
+        next,
+        handles,
+        values: given,
+        objects: listed,
+    };
     let kind = words::number_at(rows, row * 4);
     let a = words::number_at(rows, row * 4 + 1);
     if kind == 1 {
@@ -168,7 +178,10 @@ fn elements(
             depth,
             row,
             place,
-            d,
+            d.next,
+            d.handles,
+            d.values,
+            d.objects,
         ) {
             Walked::On(e) => {
                 d = e;
@@ -247,7 +260,10 @@ fn composite(
                     depth,
                     part,
                     place,
-                    d,
+                    d.next,
+                    d.handles,
+                    d.values,
+                    d.objects,
                 ) {
                     Walked::On(e) => {
                         d = e;
@@ -311,7 +327,7 @@ fn out_of_line(
         ) {
             Opened::Closed(d) => Walked::On(d),
             Opened::Refused(f) => Walked::Refused(f),
-            Opened::Open(x) => elements(
+            Opened::Open(x) => passed_on(elements(
                 rows,
                 members,
                 sizes,
@@ -325,7 +341,7 @@ fn out_of_line(
                 x.count,
                 x.start,
                 x.cursor,
-            ),
+            )),
         };
     }
     if kind == 8 {
@@ -333,7 +349,7 @@ fn out_of_line(
         return match box_opened(bytes, held, values, objects, depth, a, size, at, c) {
             Opened::Closed(d) => Walked::On(d),
             Opened::Refused(f) => Walked::Refused(f),
-            Opened::Open(x) => value(
+            Opened::Open(x) => passed_on(value(
                 rows,
                 members,
                 sizes,
@@ -345,15 +361,18 @@ fn out_of_line(
                 depth - 1,
                 a,
                 x.start,
-                x.cursor,
-            ),
+                x.cursor.next,
+                x.cursor.handles,
+                x.cursor.values,
+                x.cursor.objects,
+            )),
         };
     }
     if kind == 9 {
         return match table_opened(bytes, held, values, objects, depth, row, at, c) {
             Opened::Closed(d) => Walked::On(d),
             Opened::Refused(f) => Walked::Refused(f),
-            Opened::Open(x) => envelopes(
+            Opened::Open(x) => passed_on(envelopes(
                 rows,
                 members,
                 sizes,
@@ -367,7 +386,7 @@ fn out_of_line(
                 x.count,
                 x.start,
                 x.cursor,
-            ),
+            )),
         };
     }
     match union_member(
@@ -385,7 +404,7 @@ fn out_of_line(
     ) {
         Member::None(d) => Walked::On(d),
         Member::Bad(f) => Walked::Refused(f),
-        Member::Some(what, d) => content(
+        Member::Some(what, d) => passed_on(content(
             rows,
             members,
             sizes,
@@ -399,7 +418,7 @@ fn out_of_line(
             what,
             at + 8,
             d,
-        ),
+        )),
     }
 }
 
@@ -503,7 +522,10 @@ fn content(
                         depth - 1,
                         payload,
                         x.start,
-                        x.cursor,
+                        x.cursor.next,
+                        x.cursor.handles,
+                        x.cursor.values,
+                        x.cursor.objects,
                     ) {
                         Walked::On(d) => sealed(bytes, size, at, c.next, c.handles, d),
                         Walked::Refused(f) => Walked::Refused(f),

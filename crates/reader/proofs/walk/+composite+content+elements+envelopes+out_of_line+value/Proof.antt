@@ -22,6 +22,7 @@ use Rattle.nesting.proofs.Readiness.{row-few, row-in-use, row-size, size-small,
 use Rattle.nesting.proofs.Members.{members-rise, ordinal-content, ordinal-fits, vector-in-use, box-in-use, table-members, union-members, union-else}
 use Rattle.nesting.proofs.NoParts.{outside-left}
 use Rattle.nesting.proofs.Steps.{fuel}
+use Rattle.reader.proofs.cursor.passed_on.Reads as passed-on-reads
 use Rattle.nesting.proofs.has_parts.Reads as has-parts-reads
 use Rattle.nesting.proofs.next_step.Reads as next-step-reads
 use Rattle.nesting.proofs.ordinal_of.Reads as ordinal-of-reads
@@ -430,7 +431,7 @@ envelopes-returns-3 t c = search (needs, envelopes-end)
 -- ---- out_of_line: vector, box, table and union
 
 abbrev out-of-line-calls : ℕ → out-of-line-lts.Claims
-out-of-line-calls t = (number-at-reads.Asked, number-at-reads.Learnt, vector-opened-reads.Asked, vector-opened-reads.Learnt, elements-below t, elements.Post, box-opened-reads.Asked, box-opened-reads.Learnt, value-below t, value.Post, table-opened-reads.Asked, table-opened-reads.Learnt, envelopes-below t, envelopes.Post, union-member-reads.Asked, union-member-reads.Learnt, content-below t, content.Post)
+out-of-line-calls t = (number-at-reads.Asked, number-at-reads.Learnt, vector-opened-reads.Asked, vector-opened-reads.Learnt, elements-below t, elements.Post, passed-on-reads.Asked, passed-on-reads.Learnt, box-opened-reads.Asked, box-opened-reads.Learnt, value-below t, value.Post, table-opened-reads.Asked, table-opened-reads.Learnt, envelopes-below t, envelopes.Post, union-member-reads.Asked, union-member-reads.Learnt, content-below t, content.Post)
 
 out-of-line-vector-opened-requires : (t : ℕ) → out-of-line-lts.Need-vector-opened-requires (out-of-line-calls t) (out-of-line-at t) out-of-line.Post
 out-of-line-vector-opened-requires t c κs =
@@ -471,7 +472,7 @@ out-of-line-returns-2 t c = search (needs, vector-refused, c .before .before .be
 
 out-of-line-returns-3 : (t : ℕ) → out-of-line-lts.Need-returns-3 (out-of-line-calls t) (out-of-line-at t) out-of-line.Post
 out-of-line-returns-3 t c =
-    let at-elements = c .before .before .before .before in
+    let at-elements = c .before .before .before .before .before in
     let at-x = at-elements .before .before .before .before in
     let at-vector-opened = at-x .before .before .before .before .before .before in
     let at-number-at5 = at-vector-opened .before .before .before in
@@ -481,7 +482,7 @@ out-of-line-returns-3 t c =
     let at-number-at2 = at-number-at3 .before in
     let at-number-at = at-number-at2 .before in
     let start = at-number-at .before .before .before .before .before .before in
-    vector-done _ _ _ _ _ _ _ _ _ _ _ _ _ (at-number-at .number-at .ensures) (at-if1 .if1 .taken) (at-number-at2 .number-at2 .ensures) (at-number-at3 .number-at3 .ensures) (at-number-at4 .number-at4 .ensures) (start .pre .1 .0) (at-number-at5 .number-at5 .ensures) (at-vector-opened .vector-opened .ensures .0) (at-x .x .given .1) (at-elements .elements .ensures)
+    rw (c .passed-on .ensures) (vector-done _ _ _ _ _ _ _ _ _ _ _ _ _ (at-number-at .number-at .ensures) (at-if1 .if1 .taken) (at-number-at2 .number-at2 .ensures) (at-number-at3 .number-at3 .ensures) (at-number-at4 .number-at4 .ensures) (start .pre .1 .0) (at-number-at5 .number-at5 .ensures) (at-vector-opened .vector-opened .ensures .0) (at-x .x .given .1) (at-elements .elements .ensures))
 
 out-of-line-box-opened-requires : (t : ℕ) → out-of-line-lts.Need-box-opened-requires (out-of-line-calls t) (out-of-line-at t) out-of-line.Post
 out-of-line-box-opened-requires t c κs =
@@ -519,7 +520,7 @@ out-of-line-returns-5 t c = search (needs, box-refused, c .before .before .befor
 
 out-of-line-returns-6 : (t : ℕ) → out-of-line-lts.Need-returns-6 (out-of-line-calls t) (out-of-line-at t) out-of-line.Post
 out-of-line-returns-6 t c =
-    let at-value = c .before .before .before .before in
+    let at-value = c .before .before .before .before .before in
     let at-x2 = at-value .before .before .before .before in
     let at-box-opened = at-x2 .before .before .before .before .before .before in
     let at-number-at6 = at-box-opened .before .before .before in
@@ -527,7 +528,7 @@ out-of-line-returns-6 t c =
     let at-number-at2 = at-if2 .before .before .before .before in
     let at-number-at = at-number-at2 .before in
     let start = at-number-at .before .before .before .before .before .before in
-    box-done _ _ _ _ _ _ _ _ _ _ _ _ _ (at-number-at .number-at .ensures) (at-if2 .if2 .taken) (at-number-at2 .number-at2 .ensures) (start .pre .1 .0) (at-number-at6 .number-at6 .ensures) (at-box-opened .box-opened .ensures .0) (at-x2 .x2 .given .1) (at-value .value .ensures)
+    rw (c .passed-on2 .ensures) (box-done _ _ _ _ _ _ _ _ _ _ _ _ _ (at-number-at .number-at .ensures) (at-if2 .if2 .taken) (at-number-at2 .number-at2 .ensures) (start .pre .1 .0) (at-number-at6 .number-at6 .ensures) (at-box-opened .box-opened .ensures .0) (at-x2 .x2 .given .1) (at-value .value .ensures))
 
 out-of-line-table-opened-requires : (t : ℕ) → out-of-line-lts.Need-table-opened-requires (out-of-line-calls t) (out-of-line-at t) out-of-line.Post
 out-of-line-table-opened-requires t c κs =
@@ -559,12 +560,12 @@ out-of-line-returns-8 t c = search (needs, table-refused)
 
 out-of-line-returns-9 : (t : ℕ) → out-of-line-lts.Need-returns-9 (out-of-line-calls t) (out-of-line-at t) out-of-line.Post
 out-of-line-returns-9 t c =
-    let at-envelopes = c .before .before .before .before in
+    let at-envelopes = c .before .before .before .before .before in
     let at-x3 = at-envelopes .before .before .before .before in
     let at-table-opened = at-x3 .before .before .before .before .before .before in
     let at-if3 = at-table-opened .before .before .before in
     let at-number-at = at-if3 .before .before .before .before .before .before in
-    table-done _ _ _ _ _ _ _ _ _ _ _ _ _ (at-number-at .number-at .ensures) (at-if3 .if3 .taken) (at-table-opened .table-opened .ensures .0) (at-x3 .x3 .given .1) (at-envelopes .envelopes .ensures)
+    rw (c .passed-on3 .ensures) (table-done _ _ _ _ _ _ _ _ _ _ _ _ _ (at-number-at .number-at .ensures) (at-if3 .if3 .taken) (at-table-opened .table-opened .ensures .0) (at-x3 .x3 .given .1) (at-envelopes .envelopes .ensures))
 
 out-of-line-union-member-requires : (t : ℕ) → out-of-line-lts.Need-union-member-requires (out-of-line-calls t) (out-of-line-at t) out-of-line.Post
 out-of-line-union-member-requires t c κs =
@@ -619,7 +620,7 @@ out-of-line-returns-11 t c = search (needs, union-bad, union-else)
 
 out-of-line-returns-12 : (t : ℕ) → out-of-line-lts.Need-returns-12 (out-of-line-calls t) (out-of-line-at t) out-of-line.Post
 out-of-line-returns-12 t c =
-    let at-content = c .before .before .before .before in
+    let at-content = c .before .before .before .before .before in
     let at-what = at-content .before .before .before .before in
     let at-union-member = at-what .before .before .before .before in
     let at-if3 = at-union-member .before .before in
@@ -631,7 +632,7 @@ out-of-line-returns-12 t c =
     let at-number-at = at-number-at2 .before in
     let start = at-number-at .before .before .before .before .before .before in
     let q = union-else (start .pre .1 .0) (at-number-at .number-at .ensures) (start .pre .1 .1) (at-if1 .if1 .left) (at-if2 .if2 .left) (at-if3 .if3 .left) in
-    union-done _ _ _ _ _ _ _ _ _ _ _ _ (at-number-at .number-at .ensures) (at-number-at2 .number-at2 .ensures) (at-number-at3 .number-at3 .ensures) (at-number-at4 .number-at4 .ensures) q (at-union-member .union-member .ensures .0) (at-what .what .given .1) (at-content .content .ensures)
+    rw (c .passed-on4 .ensures) (union-done _ _ _ _ _ _ _ _ _ _ _ _ (at-number-at .number-at .ensures) (at-number-at2 .number-at2 .ensures) (at-number-at3 .number-at3 .ensures) (at-number-at4 .number-at4 .ensures) q (at-union-member .union-member .ensures .0) (at-what .what .given .1) (at-content .content .ensures))
 
 -- ---- value: a value of any kind
 
@@ -727,64 +728,72 @@ pub +composite+content+elements+envelopes+out-of-line+value-spec : {M : Type 1} 
     (composite-loop-holds t) (λ c κs. search needs) (λ c. search needs) (composite-sub-fill-at t) (composite-fill-at-requires t)
     (λ c. search needs) (composite-add-level t) (composite-loop-less t) (composite-loop-again t) (λ c. search needs)
     (composite-same-length t) (composite-same-length-2 t) (composite-returns t) (λ c. search needs) (λ c. search needs)
-    (composite-array-set-from-kept t) (λ c. search needs) (composite-loop-less-2 t) (composite-loop-again-2 t) (λ c. search needs)
-    (composite-value-requires t) (λ c. search needs) (λ c κs. search needs) (λ c. search needs) (composite-add-place t)
-    (composite-loop-less-3 t) (composite-loop-again-3 t) (λ c. search needs) (λ c. search needs) (λ c. search needs) (composite-returns-2 t)
-    (λ c. search needs) (composite-sub-around t) (λ c. search needs) (λ c. search needs) (composite-loop-less-4 t)
-    (composite-loop-again-4 t) (λ c. search needs) (composite-same-length-5 t) (composite-same-length-6 t) (composite-returns-3 t))
+    (composite-array-set-from-kept t) (λ c. search needs) (composite-loop-less-2 t) (composite-loop-again-2 t)
+    (λ c. search needs) (composite-value-requires t) (λ c. search needs) (λ c κs. search needs) (λ c. search needs)
+    (composite-add-place t) (composite-loop-less-3 t) (composite-loop-again-3 t) (λ c. search needs) (λ c. search needs)
+    (λ c. search needs) (composite-returns-2 t) (λ c. search needs) (composite-sub-around t) (λ c. search needs)
+    (λ c. search needs) (composite-loop-less-4 t) (composite-loop-again-4 t) (λ c. search needs) (composite-same-length-5 t)
+    (composite-same-length-6 t) (composite-returns-3 t))
     (λ t. content-lts.spec (content-calls t)
     (content-at t)
     content.Post
     (λ c. search needs) (content-unknown-content-requires t) (λ c. search needs) (λ c κs. search needs) (λ c. search needs)
     (content-known-opened-requires t) (λ c. search needs) (λ c. search needs) (λ c. search needs) (content-sub-value t)
-    (content-value-requires t) (λ c. search needs) (content-sealed-requires t) (λ c. search needs) (λ c. search needs) (λ c. search needs)
-    (content-returns t) (λ c. search needs) (content-returns-2 t) (λ c. search needs) (content-returns-3 t) (λ c. search needs)
-    (λ c. search needs) (content-returns-4 t) (λ c. search needs) (λ c. search needs) (content-returns-5 t))
+    (content-value-requires t) (λ c. search needs) (content-sealed-requires t) (λ c. search needs) (λ c. search needs)
+    (λ c. search needs) (content-returns t) (λ c. search needs) (content-returns-2 t) (λ c. search needs) (content-returns-3 t)
+    (λ c. search needs) (λ c. search needs) (content-returns-4 t) (λ c. search needs) (λ c. search needs) (content-returns-5 t))
     (λ t. elements-lts.spec (elements-calls t)
     (elements-at t)
     elements.Post
     elements-Inv-loop
     elements-μ-loop
-    (λ c. search needs) (λ c κs. search needs) (λ c. search needs) (λ c. search needs) (λ c κs. search needs) (elements-numbers-requires t)
-    (λ c. search needs) (elements-returns t) (λ c κs. search needs) (λ c. search needs) (λ c κs. search needs) (elements-planned-requires t) (λ c. search needs) (elements-returns-2 t)
-    (λ c. search needs) (elements-value-requires t) (λ c. search needs) (λ c. search needs) (λ c. search needs) (λ c. search needs) (elements-returns-3 t) (λ c. search needs)
-    (λ c. search needs) (λ c. search needs) (elements-loop-again t) (λ c. search needs) (λ c. search needs) (elements-returns-4 t))
+    (λ c. search needs) (λ c κs. search needs) (λ c. search needs) (λ c. search needs) (λ c κs. search needs)
+    (elements-numbers-requires t) (λ c. search needs) (elements-returns t) (λ c κs. search needs) (λ c. search needs)
+    (λ c κs. search needs) (elements-planned-requires t) (λ c. search needs) (elements-returns-2 t) (λ c. search needs)
+    (elements-value-requires t) (λ c. search needs) (λ c. search needs) (λ c. search needs) (λ c. search needs)
+    (elements-returns-3 t) (λ c. search needs) (λ c. search needs) (λ c. search needs) (elements-loop-again t)
+    (λ c. search needs) (λ c. search needs) (elements-returns-4 t))
     (λ t. envelopes-lts.spec (envelopes-calls t)
     (envelopes-at t)
     envelopes.Post
     envelopes-Inv-loop
     envelopes-μ-loop
     (λ c. search needs) (λ c. search needs) (λ c κs. search needs) (λ c. search needs) (λ c. search needs) (λ c. search needs)
-    (λ c κs. search needs) (λ c. search needs) (envelopes-loop-holds t) (λ c. search needs) (λ c. search needs) (λ c. search needs)
-    (λ c κs. search needs) (λ c κs. search needs) (λ c. search needs) (λ c. search needs) (envelopes-returns t) (λ c κs. search needs)
-    (λ c. search needs) (envelopes-loop-again t) (λ c κs. search needs) (λ c κs. search needs) (envelopes-content-requires t)
-    (λ c. search needs) (λ c. search needs) (envelopes-loop-again-2 t) (λ c. search needs) (λ c. search needs) (λ c. search needs)
-    (envelopes-returns-2 t) (λ c. search needs) (λ c. search needs) (envelopes-returns-3 t))
+    (λ c κs. search needs) (λ c. search needs) (envelopes-loop-holds t) (λ c. search needs) (λ c. search needs)
+    (λ c. search needs) (λ c κs. search needs) (λ c κs. search needs) (λ c. search needs) (λ c. search needs)
+    (envelopes-returns t) (λ c κs. search needs) (λ c. search needs) (envelopes-loop-again t) (λ c κs. search needs)
+    (λ c κs. search needs) (envelopes-content-requires t) (λ c. search needs) (λ c. search needs) (envelopes-loop-again-2 t)
+    (λ c. search needs) (λ c. search needs) (λ c. search needs) (envelopes-returns-2 t) (λ c. search needs) (λ c. search needs)
+    (envelopes-returns-3 t))
     (λ t. out-of-line-lts.spec (out-of-line-calls t)
     (out-of-line-at t)
     out-of-line.Post
-    (λ c. search needs) (λ c κs. search needs) (λ c. search needs) (λ c. search needs) (λ c κs. search needs) (λ c. search needs)
-    (λ c. search needs) (λ c. search needs) (λ c κs. search needs) (λ c. search needs) (λ c. search needs) (λ c κs. search needs)
-    (λ c κs. search needs) (λ c. search needs) (out-of-line-vector-opened-requires t) (λ c. search needs) (λ c. search needs)
-    (λ c. search needs) (out-of-line-sub-elements t) (out-of-line-elements-requires t) (λ c. search needs) (λ c. search needs)
-    (out-of-line-returns t) (λ c. search needs) (λ c. search needs) (out-of-line-returns-2 t) (λ c. search needs) (λ c. search needs)
-    (out-of-line-returns-3 t) (λ c κs. search needs) (λ c. search needs) (out-of-line-box-opened-requires t) (λ c. search needs)
-    (λ c. search needs) (λ c. search needs) (out-of-line-sub-value t) (out-of-line-value-requires t) (λ c. search needs) (λ c. search needs)
-    (out-of-line-returns-4 t) (λ c. search needs) (λ c. search needs) (out-of-line-returns-5 t) (λ c. search needs) (λ c. search needs)
-    (out-of-line-returns-6 t) (out-of-line-table-opened-requires t) (λ c. search needs) (λ c. search needs) (λ c. search needs)
-    (out-of-line-sub-envelopes t) (out-of-line-envelopes-requires t) (λ c. search needs) (λ c. search needs) (out-of-line-returns-7 t)
-    (λ c. search needs) (λ c. search needs) (out-of-line-returns-8 t) (λ c. search needs) (λ c. search needs) (out-of-line-returns-9 t)
+    (λ c. search needs) (λ c κs. search needs) (λ c. search needs) (λ c. search needs) (λ c κs. search needs)
+    (λ c. search needs) (λ c. search needs) (λ c. search needs) (λ c κs. search needs) (λ c. search needs) (λ c. search needs)
+    (λ c κs. search needs) (λ c κs. search needs) (λ c. search needs) (out-of-line-vector-opened-requires t) (λ c. search needs)
+    (λ c. search needs) (λ c. search needs) (out-of-line-sub-elements t) (out-of-line-elements-requires t)
+    (λ c κs. search needs) (λ c. search needs) (λ c. search needs) (out-of-line-returns t) (λ c. search needs)
+    (λ c. search needs) (out-of-line-returns-2 t) (λ c. search needs) (λ c. search needs) (out-of-line-returns-3 t)
+    (λ c κs. search needs) (λ c. search needs) (out-of-line-box-opened-requires t) (λ c. search needs) (λ c. search needs)
+    (λ c. search needs) (out-of-line-sub-value t) (out-of-line-value-requires t) (λ c κs. search needs) (λ c. search needs)
+    (λ c. search needs) (out-of-line-returns-4 t) (λ c. search needs) (λ c. search needs) (out-of-line-returns-5 t)
+    (λ c. search needs) (λ c. search needs) (out-of-line-returns-6 t) (out-of-line-table-opened-requires t) (λ c. search needs)
+    (λ c. search needs) (λ c. search needs) (out-of-line-sub-envelopes t) (out-of-line-envelopes-requires t)
+    (λ c κs. search needs) (λ c. search needs) (λ c. search needs) (out-of-line-returns-7 t) (λ c. search needs)
+    (λ c. search needs) (out-of-line-returns-8 t) (λ c. search needs) (λ c. search needs) (out-of-line-returns-9 t)
     (λ c. search needs) (out-of-line-union-member-requires t) (λ c. search needs) (λ c. search needs) (λ c. search needs)
-    (out-of-line-add-content t) (out-of-line-content-requires t) (λ c. search needs) (out-of-line-returns-10 t) (λ c. search needs)
-    (out-of-line-returns-11 t) (λ c. search needs) (λ c. search needs) (out-of-line-returns-12 t))
+    (out-of-line-add-content t) (out-of-line-content-requires t) (λ c κs. search needs) (λ c. search needs)
+    (out-of-line-returns-10 t) (λ c. search needs) (out-of-line-returns-11 t) (λ c. search needs) (λ c. search needs)
+    (out-of-line-returns-12 t))
     λ t. value-lts.spec (value-calls t)
     (value-at t)
     value.Post
-    (λ c. search needs) (λ c κs. search needs) (λ c. search needs) (λ c. search needs) (λ c κs. search needs) (λ c κs. search needs)
-    (λ c. search needs) (value-returns t) (value-number-requires t) (λ c. search needs) (value-returns-2 t) (λ c κs. search needs)
-    (λ c. search needs) (value-returns-3 t) (λ c κs. search needs) (value-composite-requires t) (λ c. search needs)
-    (λ c. search needs) (λ c. search needs) (λ c κs. search needs) (value-returns-5 t) (λ c. search needs) (λ c. search needs)
-    (λ c. search needs) (λ c κs. search needs) (λ c. search needs) (λ c. search needs) (λ c κs. search needs) (λ c. search needs)
-    (value-numbers-requires t) (λ c. search needs) (value-returns-6 t) (λ c. search needs) (λ c. search needs) (λ c κs. search needs)
-    (λ c. search needs) (λ c. search needs) (λ c κs. search needs) (value-string-requires t) (λ c. search needs) (λ c. search needs)
-    (value-returns-7 t) (value-out-of-line-requires t) (λ c. search needs) (λ c. search needs) (λ c. search needs)
+    (λ c. search needs) (λ c κs. search needs) (λ c. search needs) (λ c. search needs) (λ c κs. search needs)
+    (λ c κs. search needs) (λ c. search needs) (value-returns t) (value-number-requires t) (λ c. search needs)
+    (value-returns-2 t) (λ c κs. search needs) (λ c. search needs) (value-returns-3 t) (λ c κs. search needs)
+    (value-composite-requires t) (λ c. search needs) (λ c. search needs) (λ c. search needs) (λ c κs. search needs)
+    (value-returns-5 t) (λ c. search needs) (λ c. search needs) (λ c. search needs) (λ c κs. search needs) (λ c. search needs)
+    (λ c. search needs) (λ c κs. search needs) (λ c. search needs) (value-numbers-requires t) (λ c. search needs)
+    (value-returns-6 t) (λ c. search needs) (λ c. search needs) (λ c κs. search needs) (λ c. search needs) (λ c. search needs)
+    (λ c κs. search needs) (value-string-requires t) (λ c. search needs) (λ c. search needs) (value-returns-7 t)
+    (value-out-of-line-requires t) (λ c. search needs) (λ c. search needs) (λ c. search needs)
