@@ -1,8 +1,8 @@
 -- Laws of the values that stand in line: bools, numbers, handles, and runs of numbers; a law for each way that a function ends.
 -- Assumes nothing.
-use mathlib.Core.Path.{_≡_, refl, sym, ap}
+use mathlib.Core.Path.{_≡_, refl, sym, ap, _∙_}
 use mathlib.Core.Bool.{Bool, true, false}
-use mathlib.Core.List.{List, [], _∷_}
+use mathlib.Core.List.{List, [], _∷_, _++_, append-assoc}
 use Prim.Native.Nat.{ℕ, zero, suc, _+_, _-_, _*_, _≤_, _<_}
 use native.Mathlib.Nat.{add-zero, suc-mul, le-mul-of-pos-right}
 use native.Mathlib.Numerals.{add-one}
@@ -11,8 +11,8 @@ use mir.Syntax.{w64}
 use mir.Val.{Fits}
 use borrow.Author.Tests.{le-leb, lt-leb, ne-eqb, eqb-true}
 use lib.Dec.{eqb}
-use lib.ListN.{length, getD, set}
-use lib.Seq.{sets, length-sets}
+use lib.ListN.{length, getD, set, take, drop}
+use lib.Seq.{sets, length-sets, sets-eq, take-all, take-suc, take-suc-set, drop-cons, drop-drop}
 use Rattle.rules.specs.declared.Place.the-variants.{Byte}
 use Rattle.rules.specs.Refusals.{fault, boolNotZeroOrOne, presenceWrong, requiredAbsent, tooFewHandles}
 use Rattle.rules.specs.Bytes.{word, ones32}
@@ -28,7 +28,7 @@ use Rattle.reader.specs.declared.cursor.Cursor.{Cursor}
 use Rattle.reader.specs.declared.cursor.Walked.{Walked}
 use Rattle.reader.specs.declared.cursor.Walked.the-variants.{On, Refused}
 use Rattle.reader.specs.Doing.{message, gaveOne}
-use Rattle.reader.specs.Parts.{boolAt, handleAt, numbersAt, wordsFrom, Whole, DidValues, DidHandles}
+use Rattle.reader.specs.Parts.{boolAt, handleAt, numbersAt, wordsFrom, DidValues, DidHandles}
 use Rattle.reader.proofs.Steps.{cursor-same, did-stop, did-one}
 
 -- ---- widths
@@ -146,19 +146,6 @@ module _ (bytes before : List ℕ) (width count at first end : ℕ) (values : Li
   pub stored-length : length values ≡ length before
   stored-length = simp length-sets at (ap length stored)
 
-  pub stored-room : end ≤ length before → i < end → i < length values
-  stored-room h more = omega (arith, stored-length)
-
--- A byte is a number of the width 1.
-pub stored-byte : (bytes before : List ℕ) (count at first end : ℕ) (values : List ℕ) (i p : ℕ) → Stored bytes before 1 count at first end values i p → i < end
-    → Stored bytes before 1 count at first end (set values i (getD bytes p 0)) (i + 1) (p + 1)
-stored-byte bytes before count at first end values i p stored more =
-    stored-more bytes before 1 count at first end values i p stored more (sym (word-byte bytes p)) refl
-
-pub bytes-stored : (bytes values values′ : List ℕ) (width count at first : ℕ) → width ≡ 1 → values′ ≡ sets values first (wordsFrom bytes 1 at count)
-    → values′ ≡ sets values first (wordsFrom bytes width at count)
-bytes-stored bytes values values′ width count at first one stored = rw one stored
-
 -- What is left lies before a place,
 abbrev pub Inside : (total width end i p : ℕ) → Type 0
 Inside total width end i p = p + (end - i) * width ≤ total
@@ -171,14 +158,43 @@ module _ (total width end i p : ℕ) (inside : Inside total width end i p) (more
   next-left : (end - i) * width ≡ (end - (i + 1)) * width + width
   next-left = let n : end - i ≡ suc (end - (i + 1)) = omega arith in rw n (suc-mul (end - (i + 1)) width)
 
-  pub next-whole : p + width ≤ total
-  next-whole = omega (arith, next-left)
-
   pub next-fits : Fits w64 total → Fits w64 (p + width)
   next-fits h = record { fits = omega (arith, next-left) }
 
   pub next-inside : Inside total width end (i + 1) (p + width)
   next-inside = omega (arith, next-left)
+
+-- ---- bytes, which are stored all at once
+
+-- With the first `i` of them stored: one more, and all.
+module _ (bytes values : List ℕ) (i : ℕ) (long : length values ≡ length bytes) (copied : take i values ≡ take i bytes) where
+  pub copied-more : i < length values → take (i + 1) (set values i (getD bytes i 0)) ≡ take (i + 1) bytes
+  copied-more h = rw (add-one i, take-suc-set values i, copied) (sym (take-suc bytes i 0 (omega arith)))
+
+  pub copied-all : length values ≤ i → values ≡ bytes
+  copied-all h = sym (take-all i values h) ∙ copied ∙ take-all i bytes (omega arith)
+
+-- They are the numbers of the width 1.
+words-bytes : (bytes : List ℕ) (at count : ℕ) → at + count ≤ length bytes → wordsFrom bytes 1 at count ≡ take count (drop at bytes)
+unfolding wordsFrom
+words-bytes bytes at zero h = refl
+words-bytes bytes at (suc count) h =
+    let there : at < length bytes = omega arith in
+    rw (drop-cons bytes at 0, word-byte, add-one at) (ap (λ (l : List ℕ). getD bytes at 0 ∷ l) (words-bytes bytes (suc at) count (omega arith)))
+
+-- A part of each list was lent, and the values' part holds the bytes.
+pub part-stored : (bytes values : List ℕ) {part : List ℕ} (width count at first : ℕ) → width ≡ 1 → at + count ≤ length bytes → first + count ≤ length values
+    → part ≡ take (at + count - at) (drop at bytes)
+    → take first values ++ (part ++ drop (first + count - first) (drop first values)) ≡ sets values first (wordsFrom bytes width at count)
+part-stored bytes values {part} width count at first one there room e =
+    let n : at + count - at ≡ count = omega arith in
+    let m : first + count - first ≡ count = omega arith in
+    let long = length-wordsFrom bytes 1 at count in
+    let words : part ≡ wordsFrom bytes 1 at count = rw (e, n) (sym (words-bytes bytes at count there)) in
+    rw (one, m, drop-drop count first values, words)
+    (sym (rw (append-assoc, long) at (sets-eq (wordsFrom bytes 1 at count) values first (rw long room))))
+
+-- ---- the cursor after a run
 
 -- A cursor after so many value numbers.
 abbrev pub gaveMany : ℕ → Cursor → Cursor

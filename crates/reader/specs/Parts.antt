@@ -2,7 +2,7 @@
 -- Assumes nothing.
 use mathlib.Core.Bool.{Bool}
 use mathlib.Core.List.{List, [], _∷_}
-use Prim.Native.Nat.{ℕ, zero, suc, _+_, _-_, _*_, _≤_}
+use Prim.Native.Nat.{ℕ, zero, suc, _+_, _-_, _≤_}
 use lib.Dec.{leb}
 use lib.ListN.{length}
 use Rattle.rules.specs.declared.Place.the-variants.{Byte}
@@ -33,11 +33,6 @@ numbersAt width count m = D.elements width (λ i. decodeWord m width) 0 count
 unfoldable pub wordsFrom : (bytes : List ℕ) (width at count : ℕ) → List ℕ
 wordsFrom bytes width at zero = []
 wordsFrom bytes width at (suc count) = word bytes at width ∷ wordsFrom bytes width (at + width) count
-
--- They lie within the bytes, and there is room for all of them from an index on.
-pub record Whole (bytes values : List ℕ) (width count at first : ℕ) : Type 0 where
-  pub there : at + count * width ≤ length bytes
-  pub room : first + count ≤ length values
 
 -- ---- objects
 

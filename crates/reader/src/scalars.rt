@@ -8,7 +8,7 @@ ghost use lib.Seq.{sets};
 ghost use Rattle.rules.specs.Bytes.{word};
 ghost use Rattle.rules.specs.Envelope.{decodeWord};
 ghost use Rattle.nesting.specs.Ready.{widthAllowed};
-ghost use Rattle.reader.specs.Parts.{boolAt, handleAt, numbersAt, wordsFrom, Whole, DidValues, DidHandles};
+ghost use Rattle.reader.specs.Parts.{boolAt, handleAt, numbersAt, wordsFrom, DidValues, DidHandles};
 use crate::cursor::Cursor;
 use crate::cursor::Walked;
 use crate::cursor::gave;
@@ -132,7 +132,9 @@ fn store_numbers(
     } else if bytes.len() < at + count {
         store_each(bytes, values, width, count, at, first);
     } else {
-        store_bytes(bytes, values, count, at, first);
+        let end = first + count;
+        let stop = at + count;
+        store_bytes(&bytes[at..stop], &mut values[first..end]);
     }
 }
 
@@ -152,17 +154,14 @@ fn store_each(bytes: &[u8], values: &mut [u64], width: u32, count: usize, at: us
     }
 }
 
-// A loop with no test in it, so that it is compiled to vector instructions.
-fn store_bytes(bytes: &[u8], values: &mut [u64], count: usize, at: usize, first: usize)
-    requires { ⌜ Whole (now bytes) (now values) 1 count at first ⌝ }
-    ensures { λ _. ⌜ now (values .exit) ≡ sets (now (values .entry)) first (wordsFrom (now (bytes .entry)) 1 at count) ⌝ }
+// A loop with no test in it over two parts of one length, so that it is compiled to vector instructions.
+fn store_bytes(bytes: &[u8], values: &mut [u64])
+    requires { ⌜ length (now values) ≡ length (now bytes) ⌝ }
+    ensures { λ _. ⌜ now (values .exit) ≡ now (bytes .entry) ⌝ }
 {
-    let end = first + count;
-    let mut i = first;
-    let mut p = at;
-    while i < end {
-        values[i] = bytes[p] as u64;
+    let mut i = 0;
+    while i < values.len() {
+        values[i] = bytes[i] as u64;
         i += 1;
-        p += 1;
     }
 }
