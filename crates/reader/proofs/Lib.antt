@@ -26,6 +26,7 @@ pub mod NoParts
 pub mod TableEnvelopes
 pub mod Starts
 pub mod ByPlan
+pub mod Bools
 pub mod Plans
 pub mod Turns
 pub mod Roots

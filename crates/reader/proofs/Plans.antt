@@ -1,6 +1,6 @@
 -- A row whose value is flat is walked by its plan.
 -- Assumes nothing.
-use mathlib.Core.List.{List, [], _∷_, append-nil}
+use mathlib.Core.List.{List}
 use mathlib.Core.Path.{_≡_, refl, sym, _∙_}
 use Prim.Native.Nat.{ℕ, zero, suc, _+_, _*_, _≤_, _<_}
 use native.Mathlib.Omega.{arith}
@@ -8,13 +8,13 @@ use borrow.Author.Tests.{ne-eqb}
 use lib.ListN.{length, getD}
 use Rattle.rules.specs.Refusals.{accepted}
 use Rattle.rules.specs.TypeTable.{typeTable, rowCount, aAt, bAt}
-use Rattle.rules.specs.Sizes.{Field, field, layoutOf, sizeOf}
+use Rattle.rules.specs.Sizes.{Field, layoutOf, sizeOf}
 use Rattle.rules.specs.Sound.{soundness}
 use Rattle.rules.specs.Decode as D
-use Rattle.rules.specs.Decode.{Message, Decoded, Decoder, went, stopped}
+use Rattle.rules.specs.Decode.{Message, Decoder}
 use Rattle.rules.specs.Walk as W
 use Rattle.nesting.specs.declared.Plan.{Plan}
-use Rattle.nesting.specs.Plans.{widthLayout, partsSize, partsOf, Runnable, planOf, Planned}
+use Rattle.nesting.specs.Plans.{partsSize, partsOf, Runnable, planOf, Planned}
 use Rattle.nesting.specs.Ready.{Ready}
 use Rattle.nesting.proofs.ByKind.{width-positive}
 use Rattle.nesting.proofs.Plans.{Flat, a-bool, a-number, AllFlat, none, more, FlatRow, bool-row, struct-row, flat-size, flat-runnable, plan-flat, flat-row-size}
@@ -23,17 +23,12 @@ use Rattle.nesting.proofs.Starts.{members-below}
 use Rattle.reader.specs.declared.cursor.Cursor.{Cursor}
 use Rattle.reader.specs.declared.cursor.Walked.{Walked}
 use Rattle.reader.specs.Doing.{message, Ask}
-use Rattle.reader.specs.Parts.{boolAt}
 use Rattle.reader.specs.Planning.{widthAt, partsAt, DidAsked}
 use Rattle.reader.specs.Walking.{ElementsDid}
+use Rattle.reader.proofs.Bools.{one-bool}
 use Rattle.reader.proofs.ByKind.{decode-bool, decode-number, decode-struct}
 use Rattle.reader.proofs.Results.{then-same}
 use Rattle.reader.proofs.Starts.{walk-some}
-use Rattle.reader.proofs.Work.{no-fill}
-
-then-none : (r : Decoded) → D.andThen r (λ n u. went n u [] []) ≡ r
-then-none (went n u vs t) = rw (append-nil vs, append-nil t)
-then-none (stopped f vs t) = refl
 
 elements-same : (size : ℕ) {p q : Decoder} → ((at n u : ℕ) → p at n u ≡ q at n u) → (i count at n u : ℕ) → D.elements size (λ k. p) i count at n u ≡ D.elements size (λ k. q) i count at n u
 unfolding D.elements D.sequence
@@ -54,14 +49,9 @@ module _ (m : Message) (deep : D.Deeper) where
   fields-flat none = refl
   fields-flat (more f fs) = rw (flat-size f, flat-decode f, fields-flat fs)
 
-  one-bool : (at n u : ℕ) → boolAt m at n u ≡ partsAt (field 0 0 ∷ []) m at n u
-  unfolding W.fields D.sequence
-  one-bool at n u =
-      sym (then-same (boolAt m at n u) (λ n₁ u₁. rw (no-fill m widthLayout (widthAt m) (at + 1) n₁ u₁)) ∙ then-none (boolAt m at n u))
-
   row-decode : {row : ℕ} {parts : List Field} → soundness (m .table) ≡ accepted tt → row < rowCount (m .table) → FlatRow (m .table) row parts
       → (at n u : ℕ) → W.decodeRow m deep row at n u ≡ partsAt parts m at n u
-  row-decode {row} sound in-use (bool-row e) at n u = rw (decode-bool m deep row e) (one-bool at n u)
+  row-decode {row} sound in-use (bool-row e) at n u = rw (decode-bool m deep row e) (one-bool m at n u)
   row-decode {row} sound in-use (struct-row kind some fs) at n u =
       let t = m .table in
       rw (decode-struct m deep row kind (members-below t row sound in-use kind), walk-some m (layoutOf t) (W.decodeRow m deep) t (aAt t row) (bAt t row) some, fields-flat fs)

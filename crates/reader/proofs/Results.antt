@@ -24,6 +24,10 @@ pub then-same : (r : Decoded) {j k : ℕ → ℕ → Decoded} → ((n u : ℕ) �
 then-same (went n u vs t) e = rw (e n u)
 then-same (stopped f vs t) e = refl
 
+pub then-nothing : (r : Decoded) → D.andThen r (λ n u. went n u [] []) ≡ r
+then-nothing (went n u vs t) = rw (append-nil vs, append-nil t)
+then-nothing (stopped f vs t) = refl
+
 pub then-then : (r : Decoded) (j k : ℕ → ℕ → Decoded) → D.andThen (D.andThen r j) k ≡ D.andThen r (λ n u. D.andThen (j n u) k)
 then-then (went n u vs t) j k = later vs t (j n u)
   where

@@ -1,19 +1,22 @@
 // Values of bools and numbers alone, by a plan that is made once for many of them.
 ghost use mathlib.Core.Bool.{true};
 ghost use mathlib.Core.Path.{_≡_};
+ghost use mathlib.Core.List.{[], _∷_};
 ghost use Prim.Native.Nat.{_+_, _*_, _≤_, _<_};
 ghost use lib.ListN.{length};
 ghost use Rattle.rules.specs.Decode.{elements, fill};
+ghost use Rattle.rules.specs.Sizes.{field};
 ghost use Rattle.nesting.specs.Plans.{partsSize, partsFrom, partsOf, Runnable};
 ghost use Rattle.nesting.specs.Ready.{widthAllowed};
 ghost use Rattle.reader.specs.Doing.{Ask};
 ghost use Rattle.reader.specs.Parts.{DidValues, DidNeither};
-ghost use Rattle.reader.specs.Planning.{widthAt, partsAt, DidAsked};
+ghost use Rattle.reader.specs.Planning.{widthAt, partsAt, NoneAbove, DidAsked};
 use crate::claims::fill_at;
 use crate::cursor::Cursor;
 use crate::cursor::Walked;
 use crate::scalars::boolean;
 use crate::scalars::number;
+use crate::scalars::numbers;
 use nesting::Plan;
 
 // A bool, or a number, which is not looked at where the lent list has no room left.
@@ -88,7 +91,30 @@ fn one(
     Walked::On(d)
 }
 
-// As many values as there are, one after the other, each of so many bytes.
+// Whether a plan is that of a bool alone.
+fn is_bool(plan: Plan) -> bool
+    ensures { λ r. ⌜ (r ≡ true → partsOf plan ≡ field 0 0 ∷ []) ⌝ }
+{
+    let widths = plan.widths;
+    let fills = plan.fills;
+    (plan.count == 1) & (widths[0] == 0) & (fills[0] == 0)
+}
+
+// All the bits of some bytes: none of the bytes is above them. There is no branch for each.
+fn all_bits(bytes: &[u8]) -> u8
+    ensures { λ r. ⌜ NoneAbove (now (bytes .entry)) (length (now (bytes .entry))) r ⌝ }
+{
+    let mut bits: u8 = 0;
+    let mut i = 0;
+    while i < bytes.len() {
+        bits = bits | bytes[i];
+        i += 1;
+    }
+    bits
+}
+
+// As many values as there are, one after the other, each of so many bytes. Bools none of which is above 1 are given all at
+// once, as numbers of one byte; where one is above 1 they go one by one, to the first that is refused.
 pub fn planned(
     bytes: &[u8],
     values: &mut [u64],
@@ -103,6 +129,12 @@ pub fn planned(
     ensures { λ r. ⌜ DidAsked (now (bytes .entry)) (now (values .entry)) (now (values .exit)) (count * size) at c r
         (λ m. elements size (λ i. partsAt (partsOf plan) m) 0 count) ⌝ }
 {
+    if is_bool(plan) {
+        let stop = at + count;
+        if all_bits(&bytes[at..stop]) <= 1 {
+            return Walked::On(numbers(bytes, values, 1, count, at, c));
+        }
+    }
     let widths = plan.widths;
     let fills = plan.fills;
     let parts = plan.count;
