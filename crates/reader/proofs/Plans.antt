@@ -1,7 +1,7 @@
 -- A row whose value is flat is walked by its plan.
 -- Assumes nothing.
 use mathlib.Core.List.{List}
-use mathlib.Core.Path.{_≡_, refl, sym, _∙_}
+use mathlib.Core.Path.{_≡_, refl, sym, subst, _∙_}
 use Prim.Native.Nat.{ℕ, zero, suc, _+_, _*_, _≤_, _<_}
 use native.Mathlib.Omega.{arith}
 use borrow.Author.Tests.{ne-eqb}
@@ -22,12 +22,12 @@ use Rattle.nesting.proofs.Readiness.{row-size}
 use Rattle.nesting.proofs.Starts.{members-below}
 use Rattle.reader.specs.declared.cursor.Cursor.{Cursor}
 use Rattle.reader.specs.declared.cursor.Walked.{Walked}
-use Rattle.reader.specs.Doing.{message, Ask}
+use Rattle.reader.specs.Doing.{message, Did, Ask}
 use Rattle.reader.specs.Planning.{widthAt, partsAt, DidAsked}
-use Rattle.reader.specs.Walking.{ElementsDid}
+use Rattle.reader.specs.Walking.{walkRow, ValueDid, ElementsDid}
 use Rattle.reader.proofs.Bools.{one-bool}
 use Rattle.reader.proofs.ByKind.{decode-bool, decode-number, decode-struct}
-use Rattle.reader.proofs.Results.{then-same}
+use Rattle.reader.proofs.Results.{then-same, then-nothing}
 use Rattle.reader.proofs.Starts.{walk-some}
 
 elements-same : (size : ℕ) {p q : Decoder} → ((at n u : ℕ) → p at n u ≡ q at n u) → (i count at n u : ℕ) → D.elements size (λ k. p) i count at n u ≡ D.elements size (λ k. q) i count at n u
@@ -82,3 +82,19 @@ module _ {rows members sizes alignments : List ℕ} {depth row : ℕ} (ready : R
       let m = message rows members bytes handles in
       rw (elements-same (sizeOf (typeTable rows members) row) (row-decode m (W.levels m depth) (ready .sound) (ready .in-use) flat) 0 count at (c .next) (c .handles), sized)
       (did rows members o handles (rw sized at ask))
+
+  -- A value by itself is a run of one.
+  alone : sizeOf (typeTable rows members) row ≡ 1 * sizeOf (typeTable rows members) row
+  alone = omega arith
+
+  pub alone-ask : {total handles at : ℕ} {c : Cursor} → Ask total handles (sizeOf (typeTable rows members) row) at c
+      → (plan .count ≤ 16) × Runnable (partsOf plan) × (partsSize (partsOf plan) ≡ size) × Ask total 64 (1 * size) at c
+  alone-ask {total} {handles} {at} {c} ask = planned-ask 1 (subst (λ (s : ℕ). Ask total handles s at c) alone ask)
+
+  pub alone-done : (bytes : List ℕ) (handles at : ℕ) (v v′ o : List ℕ) (c : Cursor) (r : Walked) → Ask (length bytes) handles (sizeOf (typeTable rows members) row) at c
+      → DidAsked bytes v v′ (1 * size) at c r (λ m. D.elements size (λ i. partsAt (partsOf plan) m) 0 1) → ValueDid rows members bytes handles depth v v′ o o at c row r
+  unfolding D.elements D.sequence
+  alone-done bytes handles at v v′ o c r ask did =
+      let run = planned-done bytes handles at 1 v v′ o c r (subst (λ (s : ℕ). Ask (length bytes) handles s at c) alone ask) did in
+      let value = walkRow rows members bytes handles depth row at (c .next) (c .handles) in
+      subst (λ (s : ℕ). Did (length bytes) handles s v v′ o o c r value) (sym alone) (rw (then-nothing value) at run)

@@ -215,6 +215,16 @@ fn composite(
         × Ask (length (now bytes)) held (sizeOf (typeTable (now rows) (now members)) row) at c ⌝ }
     ensures { λ r. ⌜ ValueDid (now (rows .entry)) (now (members .entry)) (now (bytes .entry)) held depth (now (values .entry)) (now (values .exit)) (now (objects .entry)) (now (objects .exit)) at c row r ⌝ }
 {
+    // one of bools and numbers alone goes by a plan, which can be only where its first member is one of them
+    let first = words::number_at(rows, row * 4 + 1) as usize;
+    let part = words::number_at(members, first * 2 + 1) as usize;
+    if words::number_at(rows, part * 4) <= 2 {
+        let plan = nesting::plan_of(rows, members, alignments, row);
+        if 0 < plan.count {
+            let size = words::number_at(sizes, row) as usize;
+            return planned(bytes, values, plan, size, 1, at, c);
+        }
+    }
     let mut kept = [Level {
         row: 0,
         done: 0,

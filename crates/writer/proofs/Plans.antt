@@ -1,7 +1,7 @@
 -- A row whose value is flat is written by its plan.
 -- Assumes nothing.
 use mathlib.Core.List.{List, [], _∷_}
-use mathlib.Core.Path.{_≡_, refl, sym, _∙_}
+use mathlib.Core.Path.{_≡_, refl, sym, subst, _∙_}
 use Prim.Native.Nat.{ℕ, zero, suc, _+_, _*_, _≤_, _<_}
 use native.Mathlib.Omega.{arith}
 use borrow.Author.Tests.{ne-eqb}
@@ -23,10 +23,10 @@ use Rattle.nesting.proofs.Readiness.{row-size}
 use Rattle.nesting.proofs.Starts.{members-below}
 use Rattle.writer.specs.declared.cursor.Cursor.{Cursor}
 use Rattle.writer.specs.declared.cursor.Wrote.{Wrote}
-use Rattle.writer.specs.Putting.{Ask}
+use Rattle.writer.specs.Putting.{Put, Ask}
 use Rattle.writer.specs.InLine.{boolAs}
 use Rattle.writer.specs.Planning.{widthAs, partsAs, PutAsked}
-use Rattle.writer.specs.Walking.{ElementsPut}
+use Rattle.writer.specs.Walking.{writeRow, ValuePut, ElementsPut}
 use Rattle.writer.proofs.Begins.{some-fields}
 use Rattle.writer.proofs.ByKind.{encode-bool, encode-number, encode-struct}
 use Rattle.writer.proofs.Results.{after-none, then-nothing, then-same}
@@ -83,3 +83,19 @@ module _ {rows members sizes alignments : List ℕ} {depth row : ℕ} (ready : R
       let t = typeTable rows members in
       rw (elements-same (row-encode t (R.levels t depth) (ready .sound) (ready .in-use) flat) 0 count (drop (c .index) values) (c .next) (c .handles), sized)
       (put base (rw sized at ask))
+
+  -- A value by itself is a run of one.
+  alone : sizeOf (typeTable rows members) row ≡ 1 * sizeOf (typeTable rows members) row
+  alone = omega arith
+
+  pub alone-ask : {values : List ℕ} {at base : ℕ} {c : Cursor} → Ask values (sizeOf (typeTable rows members) row) at base c
+      → (plan .count ≤ 16) × Runnable (partsOf plan) × (partsSize (partsOf plan) ≡ size) × Ask values (1 * size) at 0 c
+  alone-ask {values} {at} {base} {c} ask = planned-ask 1 (subst (λ (s : ℕ). Ask values s at base c) alone ask)
+
+  pub alone-done : (values out out′ : List ℕ) (base at : ℕ) (c : Cursor) (r : Wrote) → Ask values (sizeOf (typeTable rows members) row) at base c
+      → PutAsked values out out′ (1 * size) at c r (E.elements (λ i. partsAs (partsOf plan)) 0 1) → ValuePut rows members values out out′ base depth at c row r
+  unfolding E.elements E.sequence
+  alone-done values out out′ base at c r ask put =
+      let run = planned-done values out out′ base at c 1 r (subst (λ (s : ℕ). Ask values s at base c) alone ask) put in
+      let value = writeRow rows members depth row (drop (c .index) values) (c .next) (c .handles) in
+      subst (λ (s : ℕ). Put values out out′ s at base c r value) (sym alone) (rw (then-nothing value) at run)

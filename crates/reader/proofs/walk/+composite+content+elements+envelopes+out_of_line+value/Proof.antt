@@ -1,6 +1,6 @@
 -- The six functions of walk.rt that call each other meet their contracts. For each function: what its callees promise, its
 -- loop's invariant and measure, and an answer to each need that `search needs` does not find; those that it finds stand at the
--- end, where all is put together.
+-- end, where all is put together, but for some that would take the last declaration past antt's limit of steps.
 --
 -- What falls at each call: 1,048,576 times the depth left, plus four times the row, plus the elements or envelopes left. What is
 -- added last keeps functions apart that call each other on one row and one depth.
@@ -33,7 +33,7 @@ use Rattle.reader.proofs.Contents.{content-unknown, content-closed, con
 use Rattle.reader.proofs.Unions.{member-fits}
 use Rattle.reader.proofs.OutOfLine.{elements-few, vector-record, box-record, table-record, union-record, vector-closed, vector-refused, vector-asks, vector-done, box-absent, box-refused, box-asks, box-done, table-closed, table-refused, table-asks, table-done, union-none, union-bad, union-asks, union-done}
 use Rattle.reader.proofs.Numbers.{numbers-ask, numbers-done}
-use Rattle.reader.proofs.Plans.{planned-ask, planned-done}
+use Rattle.reader.proofs.Plans.{planned-ask, planned-done, alone-ask, alone-done}
 use Rattle.reader.proofs.Runs.{RunLeft, run-asks, run-next, run-stopped, run-end}
 use Rattle.reader.proofs.TableEnvelopes.{EnvelopesLeft, envelopes-start, envelopes-end, content-asks, last-absent, one-absent, one-present, one-refused, one-lengths}
 use Rattle.reader.proofs.Values.{value-bool, value-number, value-handle, value-string}
@@ -138,18 +138,49 @@ value-below t = and 7 value-kinds.ps (falls 7 value-kinds.ps _<_ μ-value t) val
 -- ---- composite: structs and arrays
 
 abbrev composite-calls : ℕ → composite-lts.Claims
-composite-calls t = (next-step-reads.Asked, next-step-reads.Learnt, fill-at-reads.Asked, fill-at-reads.Learnt, value-below t, value.Post, number-at-reads.Asked, number-at-reads.Learnt)
+composite-calls t = (number-at-reads.Asked, number-at-reads.Learnt, plan-of-reads.Asked, plan-of-reads.Learnt, planned-reads.Asked, planned-reads.Learnt, next-step-reads.Asked, next-step-reads.Learnt, fill-at-reads.Asked, fill-at-reads.Learnt, value-below t, value.Post)
 
 abbrev composite-Inv-loop : composite-lts.InvT-loop
-composite-Inv-loop rows members sizes alignments bytes held values₀ objects₀ depth row at kept₀ around₀ level₀ due₀ place₀ d₀ values objects kept around level due place d =
+composite-Inv-loop rows members sizes alignments bytes held values₀ objects₀ depth row at first part kept₀ around₀ level₀ due₀ place₀ d₀ values objects kept around level due place d =
     Ready rows members sizes alignments depth row × Walking rows members bytes held depth row at values₀ objects₀ d₀ (record { row = 0; done = 0; at = 0 }) alignments values objects kept around level due place d
 
 abbrev composite-μ-loop : composite-lts.MeasureT-loop
-composite-μ-loop rows members sizes alignments bytes held values₀ objects₀ depth row at kept₀ around₀ level₀ due₀ place₀ d₀ values objects kept around level due place d =
+composite-μ-loop rows members sizes alignments bytes held values₀ objects₀ depth row at first part kept₀ around₀ level₀ due₀ place₀ d₀ values objects kept around level due place d =
     fuel rows level due place around
 
+composite-mul-number-at : (t : ℕ) → composite-lts.Need-mul-number-at (composite-calls t) (composite-at t) composite.Post composite-Inv-loop composite-μ-loop
+composite-mul-number-at t c = search needs
+
+composite-add-number-at : (t : ℕ) → composite-lts.Need-add-number-at (composite-calls t) (composite-at t) composite.Post composite-Inv-loop composite-μ-loop
+composite-add-number-at t c = search needs
+
+composite-mul-number-at-2 : (t : ℕ) → composite-lts.Need-mul-number-at-2 (composite-calls t) (composite-at t) composite.Post composite-Inv-loop composite-μ-loop
+composite-mul-number-at-2 t c = search needs
+
+composite-add-number-at-2 : (t : ℕ) → composite-lts.Need-add-number-at-2 (composite-calls t) (composite-at t) composite.Post composite-Inv-loop composite-μ-loop
+composite-add-number-at-2 t c = search needs
+
+composite-mul-number-at-3 : (t : ℕ) → composite-lts.Need-mul-number-at-3 (composite-calls t) (composite-at t) composite.Post composite-Inv-loop composite-μ-loop
+composite-mul-number-at-3 t c = search needs
+
+composite-planned-requires : (t : ℕ) → composite-lts.Need-planned-requires (composite-calls t) (composite-at t) composite.Post composite-Inv-loop composite-μ-loop
+composite-planned-requires t c κs =
+    let at-if2 = c .before .before .before in
+    let at-plan-of = at-if2 .before .before in
+    let start = at-plan-of .before .before .before .before .before .before .before .before .before .before in
+    alone-ask (start .pre .1 .0) (at-plan-of .plan-of .ensures) (at-if2 .if2 .taken) (c .before .number-at4 .ensures) (start .pre .1 .2)
+
+composite-returns : (t : ℕ) → composite-lts.Need-returns (composite-calls t) (composite-at t) composite.Post composite-Inv-loop composite-μ-loop
+composite-returns t c =
+    let at-planned = c .before .before in
+    let at-number-at = at-planned .before .before in
+    let at-if2 = at-number-at .before .before in
+    let at-plan-of = at-if2 .before .before in
+    let start = at-plan-of .before .before .before .before .before .before .before .before .before .before in
+    alone-done (start .pre .1 .0) (at-plan-of .plan-of .ensures) (at-if2 .if2 .taken) (at-number-at .number-at4 .ensures) _ _ _ _ _ _ _ _ (start .pre .1 .2) (at-planned .planned .ensures)
+
 composite-loop-holds : (t : ℕ) → composite-lts.Need-loop-holds (composite-calls t) (composite-at t) composite.Post composite-Inv-loop composite-μ-loop
-composite-loop-holds t c = (c .before .before .before .before .before .pre .1 .0, walking-start (c .before .before .before .before .before .pre .1 .0) _ _ refl (c .before .before .before .before .before .pre .1 .1) (c .before .before .before .before .before .pre .1 .2))
+composite-loop-holds t c = (c .before .before .before .before .before .before .before .before .before .pre .1 .0, walking-start (c .before .before .before .before .before .before .before .before .before .pre .1 .0) _ _ refl (c .before .before .before .before .before .before .before .before .before .pre .1 .1) (c .before .before .before .before .before .before .before .before .before .pre .1 .2))
 
 composite-sub-fill-at : (t : ℕ) → composite-lts.Need-sub-fill-at (composite-calls t) (composite-at t) composite.Post composite-Inv-loop composite-μ-loop
 composite-sub-fill-at t c =
@@ -176,14 +207,14 @@ composite-loop-again t c =
     let loop = c .before .before .before .before .before .before .before .before .before .loop in
     (loop .inv .0, turn-filled (loop .inv .0) (loop .inv .1) (c .before .before .before .before .before .before .before .before .next-step .ensures) (c .before .before .before .before .before .before .next .given .1) (c .before .before .before .before .fill-at .ensures) (c .before .before .e .given .1) .0)
 
-composite-same-length : (t : ℕ) → composite-lts.Need-same-length (composite-calls t) (composite-at t) composite.Post composite-Inv-loop composite-μ-loop
-composite-same-length t c = c .before .before .before .before .before .before .before .before .loop .inv .1 .lengths .0
-
 composite-same-length-2 : (t : ℕ) → composite-lts.Need-same-length-2 (composite-calls t) (composite-at t) composite.Post composite-Inv-loop composite-μ-loop
-composite-same-length-2 t c = c .before .before .before .before .before .before .before .before .loop .inv .1 .lengths .1
+composite-same-length-2 t c = c .before .before .before .before .before .before .before .before .loop .inv .1 .lengths .0
 
-composite-returns : (t : ℕ) → composite-lts.Need-returns (composite-calls t) (composite-at t) composite.Post composite-Inv-loop composite-μ-loop
-composite-returns t c =
+composite-same-length-3 : (t : ℕ) → composite-lts.Need-same-length-3 (composite-calls t) (composite-at t) composite.Post composite-Inv-loop composite-μ-loop
+composite-same-length-3 t c = c .before .before .before .before .before .before .before .before .loop .inv .1 .lengths .1
+
+composite-returns-2 : (t : ℕ) → composite-lts.Need-returns-2 (composite-calls t) (composite-at t) composite.Post composite-Inv-loop composite-μ-loop
+composite-returns-2 t c =
     let loop = c .before .before .before .before .before .before .before .before .loop in
     turn-fill-refused (loop .inv .0) (loop .inv .1) (c .before .before .before .before .before .before .before .next-step .ensures) (c .before .before .before .before .before .next .given .1) (c .before .before .before .fill-at .ensures) (c .before .f .given .1)
 
@@ -205,7 +236,7 @@ composite-loop-again-2 t c =
 composite-value-requires : (t : ℕ) → composite-lts.Need-value-requires (composite-calls t) (composite-at t) composite.Post composite-Inv-loop composite-μ-loop
 composite-value-requires t c κs =
     let loop = c .before .before .before .before .before .before .loop in
-    let k = turn-call (loop .inv .0) (loop .inv .1) (c .before .before .before .before .before .next-step .ensures) (c .before .before .before .part2 .given .1) in (omega (arith, c .before .before .before .before .before .before .before .before .before .before .before .before .pre .0, k .2), (k .0, k .1))
+    let k = turn-call (loop .inv .0) (loop .inv .1) (c .before .before .before .before .before .next-step .ensures) (c .before .before .before .part2 .given .1) in (omega (arith, c .before .before .before .before .before .before .before .before .before .before .before .before .before .before .before .before .pre .0, k .2), (k .0, k .1))
 
 composite-add-place : (t : ℕ) → composite-lts.Need-add-place (composite-calls t) (composite-at t) composite.Post composite-Inv-loop composite-μ-loop
 composite-add-place t c =
@@ -215,15 +246,15 @@ composite-add-place t c =
 composite-loop-less-3 : (t : ℕ) → composite-lts.Need-loop-less-3 (composite-calls t) (composite-at t) composite.Post composite-Inv-loop composite-μ-loop
 composite-loop-less-3 t c =
     let loop = c .before .before .before .before .before .before .before .before .before .before .before .before .before .before .before .before .loop in
-    turn-called (loop .inv .0) (loop .inv .1) (c .before .before .before .before .before .before .before .before .before .before .before .before .before .before .before .next-step .ensures) (c .before .before .before .before .before .before .before .before .before .before .before .before .before .part2 .given .1) (c .before .before .before .before .before .before .before .before .before .value .ensures) (c .before .before .before .e2 .given .1) (c .number-at .ensures) .1
+    turn-called (loop .inv .0) (loop .inv .1) (c .before .before .before .before .before .before .before .before .before .before .before .before .before .before .before .next-step .ensures) (c .before .before .before .before .before .before .before .before .before .before .before .before .before .part2 .given .1) (c .before .before .before .before .before .before .before .before .before .value .ensures) (c .before .before .before .e2 .given .1) (c .number-at5 .ensures) .1
 
 composite-loop-again-3 : (t : ℕ) → composite-lts.Need-loop-again-3 (composite-calls t) (composite-at t) composite.Post composite-Inv-loop composite-μ-loop
 composite-loop-again-3 t c =
     let loop = c .before .before .before .before .before .before .before .before .before .before .before .before .before .before .before .before .loop in
-    (loop .inv .0, turn-called (loop .inv .0) (loop .inv .1) (c .before .before .before .before .before .before .before .before .before .before .before .before .before .before .before .next-step .ensures) (c .before .before .before .before .before .before .before .before .before .before .before .before .before .part2 .given .1) (c .before .before .before .before .before .before .before .before .before .value .ensures) (c .before .before .before .e2 .given .1) (c .number-at .ensures) .0)
+    (loop .inv .0, turn-called (loop .inv .0) (loop .inv .1) (c .before .before .before .before .before .before .before .before .before .before .before .before .before .before .before .next-step .ensures) (c .before .before .before .before .before .before .before .before .before .before .before .before .before .part2 .given .1) (c .before .before .before .before .before .before .before .before .before .value .ensures) (c .before .before .before .e2 .given .1) (c .number-at5 .ensures) .0)
 
-composite-returns-2 : (t : ℕ) → composite-lts.Need-returns-2 (composite-calls t) (composite-at t) composite.Post composite-Inv-loop composite-μ-loop
-composite-returns-2 t c =
+composite-returns-3 : (t : ℕ) → composite-lts.Need-returns-3 (composite-calls t) (composite-at t) composite.Post composite-Inv-loop composite-μ-loop
+composite-returns-3 t c =
     let loop = c .before .before .before .before .before .before .before .before .before .before .before .before .before .before .loop in
     turn-call-refused (loop .inv .0) (loop .inv .1) (c .before .before .before .before .before .before .before .before .before .before .before .before .before .next-step .ensures) (c .before .before .before .before .before .before .before .before .before .before .before .part2 .given .1) (c .before .before .before .before .before .before .before .value .ensures) (c .before .f2 .given .1)
 
@@ -242,14 +273,14 @@ composite-loop-again-4 t c =
     let loop = c .before .before .before .before .loop in
     (loop .inv .0, turn-out (loop .inv .0) (loop .inv .1) (c .before .before .before .next-step .ensures) (c .before .enum-told .given .1) .0)
 
-composite-same-length-5 : (t : ℕ) → composite-lts.Need-same-length-5 (composite-calls t) (composite-at t) composite.Post composite-Inv-loop composite-μ-loop
-composite-same-length-5 t c = c .before .before .before .loop .inv .1 .lengths .0
-
 composite-same-length-6 : (t : ℕ) → composite-lts.Need-same-length-6 (composite-calls t) (composite-at t) composite.Post composite-Inv-loop composite-μ-loop
-composite-same-length-6 t c = c .before .before .before .loop .inv .1 .lengths .1
+composite-same-length-6 t c = c .before .before .before .loop .inv .1 .lengths .0
 
-composite-returns-3 : (t : ℕ) → composite-lts.Need-returns-3 (composite-calls t) (composite-at t) composite.Post composite-Inv-loop composite-μ-loop
-composite-returns-3 t c =
+composite-same-length-7 : (t : ℕ) → composite-lts.Need-same-length-7 (composite-calls t) (composite-at t) composite.Post composite-Inv-loop composite-μ-loop
+composite-same-length-7 t c = c .before .before .before .loop .inv .1 .lengths .1
+
+composite-returns-4 : (t : ℕ) → composite-lts.Need-returns-4 (composite-calls t) (composite-at t) composite.Post composite-Inv-loop composite-μ-loop
+composite-returns-4 t c =
     let loop = c .before .before .before .loop in
     turn-done (loop .inv .0) (loop .inv .1) (c .before .before .next-step .ensures) (c .enum-told2 .given .1)
 
@@ -709,6 +740,42 @@ value-out-of-line-requires t c κs =
     let start = at-number-at .before .before .before .before .before .before in
     (omega (arith, start .pre .0), (start .pre .1 .0, outside-left (start .args .rows .now) (start .args .members .now) (start .args .row) (at-number-at .number-at .ensures) (at-if1 .if1 .left) (at-if2 .if2 .left) (at-if3 .if3 .left) (at-if4 .if4 .left) (at-if7 .if7 .left), start .pre .1 .1))
 
+value-same-length-6 : (t : ℕ) → value-lts.Need-same-length-6 (value-calls t) (value-at t) value.Post
+value-same-length-6 t c = search needs
+
+value-mul-number-at-5 : (t : ℕ) → value-lts.Need-mul-number-at-5 (value-calls t) (value-at t) value.Post
+value-mul-number-at-5 t c = search needs
+
+value-add-number-at-4 : (t : ℕ) → value-lts.Need-add-number-at-4 (value-calls t) (value-at t) value.Post
+value-add-number-at-4 t c = search needs
+
+value-number-at-requires-5 : (t : ℕ) → value-lts.Need-number-at-requires-5 (value-calls t) (value-at t) value.Post
+value-number-at-requires-5 t c κs = search needs
+
+value-mul-number-at-6 : (t : ℕ) → value-lts.Need-mul-number-at-6 (value-calls t) (value-at t) value.Post
+value-mul-number-at-6 t c = search needs
+
+value-add-number-at-5 : (t : ℕ) → value-lts.Need-add-number-at-5 (value-calls t) (value-at t) value.Post
+value-add-number-at-5 t c = search needs
+
+value-number-at-requires-6 : (t : ℕ) → value-lts.Need-number-at-requires-6 (value-calls t) (value-at t) value.Post
+value-number-at-requires-6 t c κs = search needs
+
+value-same-length-7 : (t : ℕ) → value-lts.Need-same-length-7 (value-calls t) (value-at t) value.Post
+value-same-length-7 t c = search needs
+
+value-same-length-8 : (t : ℕ) → value-lts.Need-same-length-8 (value-calls t) (value-at t) value.Post
+value-same-length-8 t c = search needs
+
+value-same-length-9 : (t : ℕ) → value-lts.Need-same-length-9 (value-calls t) (value-at t) value.Post
+value-same-length-9 t c = search needs
+
+value-same-length-10 : (t : ℕ) → value-lts.Need-same-length-10 (value-calls t) (value-at t) value.Post
+value-same-length-10 t c = search needs
+
+value-returns-8 : (t : ℕ) → value-lts.Need-returns-8 (value-calls t) (value-at t) value.Post
+value-returns-8 t c = search needs
+
 -- ---- all six
 
 pub +composite+content+elements+envelopes+out-of-line+value-spec : {M : Type 1} → statement M
@@ -725,15 +792,19 @@ pub +composite+content+elements+envelopes+out-of-line+value-spec : {M : Type 1} 
     composite.Post
     composite-Inv-loop
     composite-μ-loop
+    (composite-mul-number-at t) (composite-add-number-at t) (λ c κs. search needs) (λ c. search needs)
+    (composite-mul-number-at-2 t) (composite-add-number-at-2 t) (λ c κs. search needs) (λ c. search needs)
+    (composite-mul-number-at-3 t) (λ c κs. search needs) (λ c κs. search needs) (λ c κs. search needs) (λ c. search needs)
+    (composite-planned-requires t) (λ c. search needs) (composite-returns t)
     (composite-loop-holds t) (λ c κs. search needs) (λ c. search needs) (composite-sub-fill-at t) (composite-fill-at-requires t)
     (λ c. search needs) (composite-add-level t) (composite-loop-less t) (composite-loop-again t) (λ c. search needs)
-    (composite-same-length t) (composite-same-length-2 t) (composite-returns t) (λ c. search needs) (λ c. search needs)
+    (composite-same-length-2 t) (composite-same-length-3 t) (composite-returns-2 t) (λ c. search needs) (λ c. search needs)
     (composite-array-set-from-kept t) (λ c. search needs) (composite-loop-less-2 t) (composite-loop-again-2 t)
     (λ c. search needs) (composite-value-requires t) (λ c. search needs) (λ c κs. search needs) (λ c. search needs)
     (composite-add-place t) (composite-loop-less-3 t) (composite-loop-again-3 t) (λ c. search needs) (λ c. search needs)
-    (λ c. search needs) (composite-returns-2 t) (λ c. search needs) (composite-sub-around t) (λ c. search needs)
-    (λ c. search needs) (composite-loop-less-4 t) (composite-loop-again-4 t) (λ c. search needs) (composite-same-length-5 t)
-    (composite-same-length-6 t) (composite-returns-3 t))
+    (λ c. search needs) (composite-returns-3 t) (λ c. search needs) (composite-sub-around t) (λ c. search needs)
+    (λ c. search needs) (composite-loop-less-4 t) (composite-loop-again-4 t) (λ c. search needs) (composite-same-length-6 t)
+    (composite-same-length-7 t) (composite-returns-4 t))
     (λ t. content-lts.spec (content-calls t)
     (content-at t)
     content.Post
@@ -793,7 +864,8 @@ pub +composite+content+elements+envelopes+out-of-line+value-spec : {M : Type 1} 
     (value-returns-2 t) (λ c κs. search needs) (λ c. search needs) (value-returns-3 t) (λ c κs. search needs)
     (value-composite-requires t) (λ c. search needs) (λ c. search needs) (λ c. search needs) (λ c κs. search needs)
     (value-returns-5 t) (λ c. search needs) (λ c. search needs) (λ c. search needs) (λ c κs. search needs) (λ c. search needs)
-    (λ c. search needs) (λ c κs. search needs) (λ c. search needs) (value-numbers-requires t) (λ c. search needs)
-    (value-returns-6 t) (λ c. search needs) (λ c. search needs) (λ c κs. search needs) (λ c. search needs) (λ c. search needs)
-    (λ c κs. search needs) (value-string-requires t) (λ c. search needs) (λ c. search needs) (value-returns-7 t)
-    (value-out-of-line-requires t) (λ c. search needs) (λ c. search needs) (λ c. search needs)
+    (λ c. search needs) (λ c κs. search needs) (λ c. search needs) (value-numbers-requires t) (value-same-length-6 t)
+    (value-returns-6 t) (value-mul-number-at-5 t) (value-add-number-at-4 t) (value-number-at-requires-5 t)
+    (value-mul-number-at-6 t) (value-add-number-at-5 t) (value-number-at-requires-6 t) (value-string-requires t)
+    (value-same-length-7 t) (value-same-length-8 t) (value-returns-7 t) (value-out-of-line-requires t) (value-same-length-9 t)
+    (value-same-length-10 t) (value-returns-8 t)

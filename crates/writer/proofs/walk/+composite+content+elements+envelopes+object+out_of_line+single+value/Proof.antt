@@ -22,7 +22,7 @@ use Rattle.writer.specs.Walking.{writeRow, writeElements}
 use Rattle.writer.proofs.Leading.{ask-stands, wrote-length}
 use Rattle.writer.proofs.Runs.{RunLeft, run-start, run-asks, run-next, run-stopped, run-end}
 use Rattle.writer.proofs.Values.{value-bool, value-number, value-handle, value-string, value-empty, string-ask, number-ask, numbers-ask, numbers-done, array-ask, array-done}
-use Rattle.writer.proofs.Plans.{planned-ask, planned-done}
+use Rattle.writer.proofs.Plans.{planned-ask, planned-done, alone-ask, alone-done}
 use Rattle.writer.proofs.Composite.{Writing, writing-start, level-known, fill-within, fill-done, into-done, call-asks, call-done, call-refused, out-done, all-put}
 use Rattle.writer.proofs.Objects.{object-asks, object-few, object-length, object-written}
 use Rattle.writer.proofs.OutOfLine.{vector-record, box-record, table-record, union-record, level-left, vector-closed, vector-refused, vector-claimed, vector-done, box-absent, box-refused, box-claimed, box-done, table-closed, table-refused, table-claimed, table-done, union-none, union-bad, union-asks, union-fits, union-done}
@@ -162,19 +162,35 @@ value-below t = and 6 value-kinds.ps (falls 6 value-kinds.ps _<_ μ-value t) val
 -- ---- composite: structs and arrays
 
 abbrev composite-calls : ℕ → composite-lts.Claims
-composite-calls t = (next-step-reads.Asked, next-step-reads.Learnt, put-zeros-reads.Asked, put-zeros-reads.Learnt, value-below t, value.Post, number-at-reads.Asked, number-at-reads.Learnt)
+composite-calls t = (number-at-reads.Asked, number-at-reads.Learnt, plan-of-reads.Asked, plan-of-reads.Learnt, planned-reads.Asked, planned-reads.Learnt, next-step-reads.Asked, next-step-reads.Learnt, put-zeros-reads.Asked, put-zeros-reads.Learnt, value-below t, value.Post)
 
 abbrev composite-Inv-loop : composite-lts.InvT-loop
-composite-Inv-loop rows members sizes alignments values out₀ base depth row at kept₀ around₀ level₀ due₀ place₀ d₀ out kept around level due place d =
+composite-Inv-loop rows members sizes alignments values out₀ base depth row at first part kept₀ around₀ level₀ due₀ place₀ d₀ out kept around level due place d =
     Ready rows members sizes alignments depth row × Writing (record { row = 0; done = 0; at = 0 }) rows members alignments values base depth row at out₀ d₀ out kept around level due place d
 
 abbrev composite-μ-loop : composite-lts.MeasureT-loop
-composite-μ-loop rows members sizes alignments values out₀ base depth row at kept₀ around₀ level₀ due₀ place₀ d₀ out kept around level due place d =
+composite-μ-loop rows members sizes alignments values out₀ base depth row at first part kept₀ around₀ level₀ due₀ place₀ d₀ out kept around level due place d =
     fuel rows level due place around
+
+composite-planned-requires : (t : ℕ) → composite-lts.Need-planned-requires (composite-calls t) (composite-at t) composite.Post composite-Inv-loop composite-μ-loop
+composite-planned-requires t c κs =
+    let at-if2 = c .before .before .before in
+    let at-plan-of = at-if2 .before .before in
+    let start = at-plan-of .before .before .before .before .before .before .before .before .before in
+    alone-ask (start .pre .1 .0) (at-plan-of .plan-of .ensures) (at-if2 .if2 .taken) (c .before .number-at4 .ensures) (start .pre .1 .2)
+
+composite-returns : (t : ℕ) → composite-lts.Need-returns (composite-calls t) (composite-at t) composite.Post composite-Inv-loop composite-μ-loop
+composite-returns t c =
+    let at-planned = c .before .before in
+    let at-number-at = at-planned .before .before in
+    let at-if2 = at-number-at .before .before in
+    let at-plan-of = at-if2 .before .before in
+    let start = at-plan-of .before .before .before .before .before .before .before .before .before in
+    alone-done (start .pre .1 .0) (at-plan-of .plan-of .ensures) (at-if2 .if2 .taken) (at-number-at .number-at4 .ensures) _ _ _ _ _ _ _ (start .pre .1 .2) (at-planned .planned .ensures)
 
 composite-loop-holds : (t : ℕ) → composite-lts.Need-loop-holds (composite-calls t) (composite-at t) composite.Post composite-Inv-loop composite-μ-loop
 composite-loop-holds t c =
-    let start = c .before .before .before .before in
+    let start = c .before .before .before .before .before .before .before .before in
     (start .pre .1 .0, writing-start (start .pre .1 .0) _ _ _ refl (start .pre .1 .1) (start .pre .1 .2))
 
 composite-sub-put-zeros : (t : ℕ) → composite-lts.Need-sub-put-zeros (composite-calls t) (composite-at t) composite.Post composite-Inv-loop composite-μ-loop
@@ -238,8 +254,13 @@ composite-value-requires t c κs =
     let at-part2 = c .before .before in
     let at-next-step = at-part2 .before .before in
     let at-loop = at-next-step .before in
-    let start = at-loop .before .before .before .before .before in
+    let start = at-loop .before .before .before .before .before .before .before .before .before in
     let k = call-asks (at-loop .loop .inv .0) (at-loop .loop .inv .1) (at-next-step .next-step .ensures) (at-part2 .part2 .given .1) in (omega (arith, start .pre .0, k .2), (k .0, k .1))
+
+composite-add-place : (t : ℕ) → composite-lts.Need-add-place (composite-calls t) (composite-at t) composite.Post composite-Inv-loop composite-μ-loop
+composite-add-place t c =
+    let at-loop = c .before .before .before .before .before .before .before .before .before .before .before .before .before in
+    omega (arith, level-known (at-loop .loop .inv .0) (at-loop .loop .inv .1) .short)
 
 composite-loop-less-3 : (t : ℕ) → composite-lts.Need-loop-less-3 (composite-calls t) (composite-at t) composite.Post composite-Inv-loop composite-μ-loop
 composite-loop-less-3 t c =
@@ -248,7 +269,7 @@ composite-loop-less-3 t c =
     let at-part2 = at-value .before .before .before in
     let at-next-step = at-part2 .before .before in
     let at-loop = at-next-step .before in
-    call-done (at-loop .loop .inv .0) (at-loop .loop .inv .1) (at-next-step .next-step .ensures) (at-part2 .part2 .given .1) (at-value .value .ensures) (at-e .e .given .1) (c .number-at .ensures) .1
+    call-done (at-loop .loop .inv .0) (at-loop .loop .inv .1) (at-next-step .next-step .ensures) (at-part2 .part2 .given .1) (at-value .value .ensures) (at-e .e .given .1) (c .number-at5 .ensures) .1
 
 composite-loop-again-3 : (t : ℕ) → composite-lts.Need-loop-again-3 (composite-calls t) (composite-at t) composite.Post composite-Inv-loop composite-μ-loop
 composite-loop-again-3 t c =
@@ -257,10 +278,10 @@ composite-loop-again-3 t c =
     let at-part2 = at-value .before .before .before in
     let at-next-step = at-part2 .before .before in
     let at-loop = at-next-step .before in
-    (at-loop .loop .inv .0, call-done (at-loop .loop .inv .0) (at-loop .loop .inv .1) (at-next-step .next-step .ensures) (at-part2 .part2 .given .1) (at-value .value .ensures) (at-e .e .given .1) (c .number-at .ensures) .0)
+    (at-loop .loop .inv .0, call-done (at-loop .loop .inv .0) (at-loop .loop .inv .1) (at-next-step .next-step .ensures) (at-part2 .part2 .given .1) (at-value .value .ensures) (at-e .e .given .1) (c .number-at5 .ensures) .0)
 
-composite-returns : (t : ℕ) → composite-lts.Need-returns (composite-calls t) (composite-at t) composite.Post composite-Inv-loop composite-μ-loop
-composite-returns t c =
+composite-returns-2 : (t : ℕ) → composite-lts.Need-returns-2 (composite-calls t) (composite-at t) composite.Post composite-Inv-loop composite-μ-loop
+composite-returns-2 t c =
     let at-f = c .before in
     let at-value = at-f .before .before .before .before in
     let at-part2 = at-value .before .before .before in
@@ -288,8 +309,8 @@ composite-loop-again-4 t c =
     let at-loop = at-next-step .before in
     (at-loop .loop .inv .0, out-done (at-loop .loop .inv .0) (at-loop .loop .inv .1) (at-next-step .next-step .ensures) (at-enum-told .enum-told .given .1) .0)
 
-composite-returns-2 : (t : ℕ) → composite-lts.Need-returns-2 (composite-calls t) (composite-at t) composite.Post composite-Inv-loop composite-μ-loop
-composite-returns-2 t c =
+composite-returns-3 : (t : ℕ) → composite-lts.Need-returns-3 (composite-calls t) (composite-at t) composite.Post composite-Inv-loop composite-μ-loop
+composite-returns-3 t c =
     let at-next-step = c .before .before in
     let at-loop = at-next-step .before in
     all-put (at-loop .loop .inv .0) (at-loop .loop .inv .1) (at-next-step .next-step .ensures) (c .enum-told2 .given .1)
@@ -1081,14 +1102,17 @@ pub +composite+content+elements+envelopes+object+out-of-line+single+value-spec :
     composite.Post
     composite-Inv-loop
     composite-μ-loop
+    (λ c. search needs) (λ c. search needs) (λ c κs. search needs) (λ c. search needs) (λ c. search needs) (λ c. search needs)
+    (λ c κs. search needs) (λ c. search needs) (λ c. search needs) (λ c κs. search needs) (λ c κs. search needs)
+    (λ c κs. search needs) (λ c. search needs) (composite-planned-requires t) (λ c. search needs) (composite-returns t)
     (composite-loop-holds t) (λ c κs. search needs) (λ c. search needs) (composite-sub-put-zeros t)
     (composite-put-zeros-requires t) (composite-add-level t) (composite-loop-less t) (composite-loop-again t)
     (λ c. search needs) (λ c. search needs) (composite-array-set-from-kept t) (λ c. search needs) (composite-loop-less-2 t)
     (composite-loop-again-2 t) (λ c. search needs) (composite-value-requires t) (λ c. search needs) (λ c κs. search needs)
-    (λ c. search needs) (λ c. search needs) (composite-loop-less-3 t) (composite-loop-again-3 t) (λ c. search needs)
-    (λ c. search needs) (composite-returns t) (λ c. search needs) (composite-sub-around t) (λ c. search needs)
+    (λ c. search needs) (composite-add-place t) (composite-loop-less-3 t) (composite-loop-again-3 t) (λ c. search needs)
+    (λ c. search needs) (composite-returns-2 t) (λ c. search needs) (composite-sub-around t) (λ c. search needs)
     (λ c. search needs) (composite-loop-less-4 t) (composite-loop-again-4 t) (λ c. search needs) (λ c. search needs)
-    (composite-returns-2 t))
+    (composite-returns-3 t))
     (λ t. content-lts.spec (content-calls t)
     (content-at t)
     content.Post
