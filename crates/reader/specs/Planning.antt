@@ -1,9 +1,9 @@
 -- What the functions of planned.rt promise.
 -- Assumes nothing.
 use mathlib.Core.List.{List}
-use Prim.Native.Nat.{ℕ, _≤_, _<_}
+use Prim.Native.Nat.{ℕ}
 use lib.Dec.{eqb}
-use lib.ListN.{length, getD}
+use lib.ListN.{length}
 use Rattle.rules.specs.Refusals.{if_then_else_}
 use Rattle.rules.specs.Sizes.{Field}
 use Rattle.rules.specs.Decode.{Message, Decoder}
@@ -22,10 +22,6 @@ widthAt m width = if eqb width 0 then boolAt m else decodeWord m width
 -- The parts of a plan, with the fill after each.
 abbrev pub partsAt : List Field → Message → Decoder
 partsAt parts m = W.fields m widthLayout (widthAt m) parts
-
--- None of the first `count` bytes is above a bound.
-pub record NoneAbove (bytes : List ℕ) (count most : ℕ) : Type 0 where
-  pub each : (i : ℕ) → i < count → getD bytes i 0 ≤ most
 
 -- Done under any type table, with any handle count, wherever it is asked for; the objects are left alone.
 abbrev pub DidAsked : (bytes values values′ : List ℕ) (need at : ℕ) (c : Cursor) (r : Walked) → (Message → Decoder) → Type 0

@@ -10,7 +10,7 @@ ghost use Rattle.nesting.specs.Plans.{partsSize, partsFrom, partsOf, Runnable};
 ghost use Rattle.nesting.specs.Ready.{widthAllowed};
 ghost use Rattle.reader.specs.Doing.{Ask};
 ghost use Rattle.reader.specs.Parts.{DidValues, DidNeither};
-ghost use Rattle.reader.specs.Planning.{widthAt, partsAt, NoneAbove, DidAsked};
+ghost use Rattle.reader.specs.Planning.{widthAt, partsAt, DidAsked};
 use crate::claims::fill_at;
 use crate::cursor::Cursor;
 use crate::cursor::Walked;
@@ -100,19 +100,6 @@ fn is_bool(plan: Plan) -> bool
     (plan.count == 1) & (widths[0] == 0) & (fills[0] == 0)
 }
 
-// All the bits of some bytes: none of the bytes is above them. There is no branch for each.
-fn all_bits(bytes: &[u8]) -> u8
-    ensures { λ r. ⌜ NoneAbove (now (bytes .entry)) (length (now (bytes .entry))) r ⌝ }
-{
-    let mut bits: u8 = 0;
-    let mut i = 0;
-    while i < bytes.len() {
-        bits = bits | bytes[i];
-        i += 1;
-    }
-    bits
-}
-
 // As many values as there are, one after the other, each of so many bytes. Bools none of which is above 1 are given all at
 // once, as numbers of one byte; where one is above 1 they go one by one, to the first that is refused.
 pub fn planned(
@@ -131,7 +118,7 @@ pub fn planned(
 {
     if is_bool(plan) {
         let stop = at + count;
-        if all_bits(&bytes[at..stop]) <= 1 {
+        if words::byte_bits(&bytes[at..stop]) <= 1 {
             return Walked::On(numbers(bytes, values, 1, count, at, c));
         }
     }

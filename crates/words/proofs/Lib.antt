@@ -1,3 +1,4 @@
+pub mod Bits
 pub mod Fill
 pub mod Loads
 pub mod Room

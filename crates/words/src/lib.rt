@@ -6,6 +6,7 @@ ghost use lib.Dec.{leb};
 ghost use lib.ListN.{length, getD, set};
 ghost use lib.Seq.{sets};
 ghost use Rattle.rules.specs.Bytes.{word, bytesOf, part, leadingZeros, roundUp, padded};
+ghost use Rattle.words.specs.Bits.{allBits};
 
 // ---- elements
 
@@ -193,6 +194,34 @@ pub fn store64(out: &mut [u8], at: usize, value: u64)
             store32(out, at + 4, (value / 4294967296) as u32);
         }
     }
+}
+
+// ---- bits
+
+// All the bits of bytes, and of numbers: none of them is above it. There is no branch for each, so that the loop is compiled to
+// vector instructions.
+pub fn byte_bits(bytes: &[u8]) -> u8
+    ensures { λ r. ⌜ r ≡ allBits (now (bytes .entry)) ⌝ }
+{
+    let mut bits: u8 = 0;
+    let mut i = 0;
+    while i < bytes.len() {
+        bits = bits | bytes[i];
+        i += 1;
+    }
+    bits
+}
+
+pub fn value_bits(values: &[u64]) -> u64
+    ensures { λ r. ⌜ r ≡ allBits (now (values .entry)) ⌝ }
+{
+    let mut bits: u64 = 0;
+    let mut i = 0;
+    while i < values.len() {
+        bits = bits | values[i];
+        i += 1;
+    }
+    bits
 }
 
 // ---- fill and rounding

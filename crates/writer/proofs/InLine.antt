@@ -9,10 +9,9 @@ use native.Mathlib.Numerals.{add-one}
 use native.Mathlib.Omega.{arith}
 use mir.Syntax.{w8, w16, w32, w64}
 use mir.Val.{Fits}
-use borrow.Author.Tests.{lt-ltb, le-ltb, le-leb, lt-leb, ne-eqb, eqb-true, eqb-false}
+use borrow.Author.Tests.{lt-ltb, le-ltb, le-leb, lt-leb, ne-eqb, eqb-true}
 use lib.Dec.{eqb, leb, ltb}
-use lib.Bits.{bitOr, or-add-and, and-le-l, and-le-r}
-use lib.ListN.{length, set, drop, getD, length-append, length-drop, drop-of-length-le}
+use lib.ListN.{length, set, take, drop, getD, length-append, length-drop, drop-of-length-le}
 use lib.Seq.{sets, length-sets, drop-cons}
 use Rattle.rules.specs.declared.Place.the-variants.{Index}
 use Rattle.rules.specs.Refusals.{fault, tooManyHandles, notAValue}
@@ -23,6 +22,8 @@ use Rattle.rules.specs.Encode.{Encoded, wrote, cannot, Encoder, WriteRecord, pu
 use Rattle.rules.specs.Records.{anyPattern, boolPattern, writeNumber, writePresence}
 use Rattle.rules.specs.Envelope.{encodeWord}
 use Rattle.rules.specs.Writer as R
+use Rattle.words.specs.Bits.{allBits}
+use Rattle.words.proofs.Bits.{part-none-above}
 use Rattle.words.proofs.Stores.{sets-append, sets-past, length-bytesOf, bytesOf-byte}
 use Rattle.nesting.specs.Ready.{widthAllowed}
 use Rattle.writer.specs.declared.cursor.Cursor.{Cursor}
@@ -405,28 +406,10 @@ module _ (values before : List ℕ) (width count at : ℕ) (c : Cursor) (out : L
 
 -- ---- runs that are judged before
 
-bits-left : (a b : ℕ) → a ≤ bitOr a b
-bits-left a b = omega (arith, or-add-and a b, and-le-r a b)
-
-bits-right : (a b : ℕ) → b ≤ bitOr a b
-bits-right a b = omega (arith, or-add-and a b, and-le-l a b)
-
-pub none-yet : (values : List ℕ) (from most : ℕ) → NoneAbove values from 0 most
-none-yet values from most = record { each = λ i h. absurd (omega arith) }
-
-pub all-passed : (values : List ℕ) (from count most i : ℕ) → NoneAbove values from i most → count ≤ i → NoneAbove values from count most
-all-passed values from count most i n h = record { each = λ j k. n .each j (omega arith) }
-
-pub none-above : {values : List ℕ} {from count bits most : ℕ} → NoneAbove values from count bits → bits ≤ most → NoneAbove values from count most
-none-above n h = record { each = λ i k. omega (arith, n .each i k) }
-
--- One number's bits are joined to those before it.
-pub bits-joined : (values : List ℕ) (from i bits : ℕ) → NoneAbove values from i bits → NoneAbove values from (i + 1) (bitOr bits (getD values (from + i) 0))
-bits-joined values from i bits n = record { each = λ j h. go j h (eqb j i) refl }
-  where
-    go : (j : ℕ) → j < i + 1 → (b : Bool) → eqb j i ≡ b → getD values (from + j) 0 ≤ bitOr bits (getD values (from + i) 0)
-    go j h true e = let q : j ≡ i = eqb-true j i e in rw q (bits-right bits (getD values (from + i) 0))
-    go j h false e = omega (arith, n .each j (omega (arith, eqb-false j i e)), bits-left bits (getD values (from + i) 0))
+-- A part of the list was lent, none of whose numbers is above their bits.
+pub bits-within : {values : List ℕ} {from count bits most : ℕ} → from + count ≤ length values → bits ≡ allBits (take (from + count - from) (drop from values)) → bits ≤ most
+    → NoneAbove values from count most
+bits-within {values} {from} {count} enough is low = record { each = λ i h. omega (arith, is, part-none-above values from (from + count) i (omega arith) enough) }
 
 module _ (values before : List ℕ) (width count at most : ℕ) (c : Cursor) (s : Stands values c) (l : most + 1 ≡ 256 ^ width)
     (enough : c .index + count ≤ length values) (within : NoneAbove values (c .index) count most) where

@@ -102,20 +102,6 @@ pub fn handle(values: &[u64], out: &mut [u8], optional: u32, at: usize, c: Curso
     with_handles(1, took(c))
 }
 
-// All the bits of so many numbers: none of the numbers is above it. There is no branch for each.
-fn all_bits(values: &[u64], from: usize, count: usize) -> u64
-    requires { ⌜ from + count ≤ length (now values) ⌝ }
-    ensures { λ r. ⌜ NoneAbove (now (values .entry)) from count r ⌝ }
-{
-    let mut bits: u64 = 0;
-    let mut i = 0;
-    while i < count {
-        bits = bits | values[from + i];
-        i += 1;
-    }
-    bits
-}
-
 // Whether the list has all of so many numbers, none of them above the largest.
 fn are_within(values: &[u64], most: u64, from: usize, count: usize) -> bool
     requires { ⌜ from ≤ length (now values) ⌝ }
@@ -127,7 +113,8 @@ fn are_within(values: &[u64], most: u64, from: usize, count: usize) -> bool
     if most == 18446744073709551615 {
         return true;
     }
-    all_bits(values, from, count) <= most
+    let end = from + count;
+    words::value_bits(&values[from..end]) <= most
 }
 
 // The cursor after so many numbers.

@@ -23,14 +23,14 @@ add-stop c =
     let asked = c .before .before .before .before .pre .3 in
     omega (arith, bools-inside (c .before .is-bool .ensures (c .if1 .taken)) (c .before .before .before .before .pre .2) (c .before .before .before .before .args .count) asked, asked .short)
 
-part-all-bits-end : tie.Need-part-all-bits-end Inv-loop μ-loop
-part-all-bits-end c = omega (arith, bools-inside (c .before .is-bool .ensures (c .if1 .taken)) (c .before .before .before .before .pre .2) (c .before .before .before .before .args .count) (c .before .before .before .before .pre .3))
+part-byte-bits-end : tie.Need-part-byte-bits-end Inv-loop μ-loop
+part-byte-bits-end c = omega (arith, bools-inside (c .before .is-bool .ensures (c .if1 .taken)) (c .before .before .before .before .pre .2) (c .before .before .before .before .args .count) (c .before .before .before .before .pre .3))
 
 numbers-requires : tie.Need-numbers-requires Inv-loop μ-loop
 numbers-requires c κs = bools-ask (c .before .before .before .before .before .is-bool .ensures (c .before .before .before .before .if1 .taken)) (c .before .before .before .before .before .before .before .before .pre .2) (c .before .before .before .before .before .before .before .before .args .count) (c .before .before .before .before .before .before .before .before .pre .3)
 
 returns : tie.Need-returns Inv-loop μ-loop
-returns c = bools-given (c .before .before .before .before .before .before .before .before .is-bool .ensures (c .before .before .before .before .before .before .before .if1 .taken)) (c .before .before .before .before .before .before .before .before .before .before .before .pre .2) _ _ _ (c .before .before .before .before .before .all-bits .ensures) (c .before .before .before .before .if2 .taken) (c .before .before .numbers .ensures)
+returns c = bools-given (c .before .before .before .before .before .before .before .before .is-bool .ensures (c .before .before .before .before .before .before .before .if1 .taken)) (c .before .before .before .before .before .before .before .before .before .before .before .pre .2) _ _ _ (c .before .before .before .before .before .byte-bits .ensures) (c .before .before .before .before .if2 .taken) (c .before .before .numbers .ensures)
 
 loop-holds : tie.Need-loop-holds Inv-loop μ-loop
 loop-holds c = (values-start _ _ _ _ _ _ _, refl)
@@ -56,6 +56,6 @@ pub planned-spec : {M : Type 1} → statement M
 planned-spec =
     tie.close
     (tie.spec
-    Inv-loop μ-loop (λ c κs. search needs) add-stop (λ c. search needs) (λ c. search needs) part-all-bits-end (λ c κs. search needs) numbers-requires
+    Inv-loop μ-loop (λ c κs. search needs) add-stop (λ c. search needs) (λ c. search needs) part-byte-bits-end (λ c κs. search needs) numbers-requires
     (λ c. search needs) returns loop-holds one-requires (λ c. search needs) (λ c. search needs) (λ c. search needs) returns-2 add-place (λ c. search needs)
     (λ c. search needs) loop-again (λ c. search needs) returns-3)

@@ -5,7 +5,7 @@ use Prim.Native.Nat.{_+_}
 use native.Mathlib.Omega.{arith}
 use borrow.Author.Needs.{needs}
 use borrow.Author.Tests.{leb-true}
-use Rattle.writer.proofs.InLine.{none-above}
+use Rattle.writer.proofs.InLine.{bits-within}
 use Rattle.writer.proofs.scalars.are_within.Statement.{statement}
 use Rattle.writer.proofs.scalars.are_within.Tie as tie
 
@@ -18,7 +18,9 @@ returns-2 c e =
     (omega arith, record { each = λ i k. omega (arith, start .shared-slice-known .given (start .before .args .from + i)) })
 
 returns-3 : tie.Need-returns-3
-returns-3 c e = (omega arith, none-above (c .all-bits .ensures) (leb-true _ _ e))
+returns-3 c e = (omega arith, bits-within (omega arith) (c .value-bits .ensures) (leb-true _ _ e))
 
 pub are-within-spec : {M : Type 1} → statement M
-are-within-spec = tie.close (tie.spec (λ c. search needs) returns returns-2 (λ c κs. search needs) returns-3)
+are-within-spec =
+    tie.close
+    (tie.spec (λ c. search needs) returns returns-2 (λ c. search needs) (λ c. search needs) (λ c. search needs) (λ c. search needs) (λ c. search needs) (λ c κs. search needs) returns-3)

@@ -1,0 +1,30 @@
+-- `words::value_bits` meets its contract. The loop's invariant: the bits are those of the values passed.
+-- Assumes nothing.
+use mathlib.Core.Path.{_≡_}
+use Prim.Native.Nat.{_-_, _≤_}
+use borrow.Author.Needs.{needs}
+use lib.ListN.{length}
+use Rattle.words.specs.Bits.{bitsOf}
+use Rattle.words.proofs.Bits.{bits-none, bits-more, bits-all}
+use Rattle.words.proofs.value_bits.Statement.{statement}
+use Rattle.words.proofs.value_bits.Tie as tie
+
+abbrev Inv-loop : tie.InvT-loop
+Inv-loop values bits₀ i₀ bits i = (i ≤ length values) × (bits ≡ bitsOf values i)
+
+abbrev μ-loop : tie.MeasureT-loop
+μ-loop values bits₀ i₀ bits i = length values - i
+
+loop-holds : tie.Need-loop-holds Inv-loop μ-loop
+loop-holds c = search (needs, bits-none)
+
+loop-again : tie.Need-loop-again Inv-loop μ-loop
+loop-again c = search (needs, bits-more)
+
+returns : tie.Need-returns Inv-loop μ-loop
+returns c = search (needs, bits-all)
+
+pub value-bits-spec : {M : Type 1} → statement M
+value-bits-spec =
+    tie.close
+    (tie.spec Inv-loop μ-loop loop-holds (λ c. search needs) (λ c. search needs) (λ c. search needs) (λ c. search needs) loop-again returns)
