@@ -117,8 +117,9 @@ fn turn(count: u32, run: &mut impl FnMut()) -> f64 {
     start.elapsed().as_secs_f64() * 1e9 / f64::from(count)
 }
 
-fn by_face(face: &impl Face, workload: &Workload, operation: Operation, buffers: &mut Buffers) {
-    let workload = black_box(workload);
+/// Library and reference are called alike, through a pointer, so that neither is compiled into the measurement.
+fn by_face(face: &dyn Face, workload: &Workload, operation: Operation, buffers: &mut Buffers) {
+    let (face, workload) = (black_box(face), black_box(workload));
     let (table, root, message) = (workload.lists.table(), workload.root, workload.message());
     let mut answer = [0; 3];
     let answer = &mut answer;
