@@ -7,7 +7,6 @@ use Prim.Native.Nat.{ℕ, _+_}
 use native.Mathlib.Omega.{arith}
 use borrow.Author.Tests.{ne-eqb}
 use lib.ListN.{length, set}
-use Rattle.rules.specs.declared.Fault.{Fault}
 use Rattle.rules.specs.declared.Place.the-variants.{Byte}
 use Rattle.rules.specs.Refusals.{fault, presenceWrong}
 use Rattle.rules.specs.Bytes.{word, ones64}
@@ -19,9 +18,10 @@ use Rattle.rules.specs.Decode.{Message, got, wrong}
 use Rattle.rules.specs.Records.{presence, readPresence}
 use Rattle.rules.specs.Walk as W
 use Rattle.reader.specs.declared.cursor.Cursor.{Cursor}
+use Rattle.reader.specs.declared.cursor.Stop.{Stop}
 use Rattle.reader.specs.declared.records.Opened.{Opened}
 use Rattle.reader.specs.declared.records.Opened.the-variants.{Closed, Refused}
-use Rattle.reader.specs.Doing.{message, gaveOne, Ask}
+use Rattle.reader.specs.Doing.{message, stop, gaveOne, Ask}
 use Rattle.reader.specs.Opening.{boxAt}
 use Rattle.reader.specs.Contracts.{DeeperOpens, BoxOpens}
 use Rattle.reader.proofs.Steps.{did-stop, did-one}
@@ -46,9 +46,9 @@ module _ (bytes : List ℕ) (handles depth : ℕ) (values objects : List ℕ) (a
   box-closed ask h e g rows members sized =
       rw (e, g, record-got 8 _ _ at (c .next) (c .handles) (box-absent (message rows members bytes handles) at said h)) (did-one 0 (omega arith) (ask .free) (ask .held))
 
-  pub box-refused : {f : Fault} → (says ≡ 0 → ⊥) → (says ≡ ones64 → ⊥) → f ≡ fault presenceWrong (Byte at)
+  pub box-refused : {f : Stop} → (says ≡ 0 → ⊥) → (says ≡ ones64 → ⊥) → f ≡ stop presenceWrong at
       → BoxOpens bytes handles depth values values objects objects at c element size (Refused f)
-  box-refused h k e rows members sized = rw (e, record-wrong 8 _ _ at (c .next) (c .handles) (box-wrong (message rows members bytes handles) at said h k)) did-stop
+  box-refused h k e rows members sized = rw (e, record-wrong 8 _ _ at (c .next) (c .handles) (box-wrong (message rows members bytes handles) at said h k)) (did-stop (omega arith))
 
   box-whole : (rows members : List ℕ) → sizeOf (typeTable rows members) element ≡ size → says ≡ ones64
       → boxAt (message rows members bytes handles) depth element at (c .next) (c .handles)

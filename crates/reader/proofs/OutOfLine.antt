@@ -5,7 +5,6 @@ use mathlib.Core.Path.{_≡_, refl, sym, _∙_}
 use Prim.Native.Nat.{ℕ, _+_, _-_, _*_, _≤_, _<_}
 use native.Mathlib.Omega.{arith}
 use lib.ListN.{length, getD}
-use Rattle.rules.specs.declared.Fault.{Fault}
 use Rattle.rules.specs.TypeTable.{typeTable, rowCount, kindAt, aAt, bAt, contentOf}
 use Rattle.rules.specs.Sizes.{sizeOf}
 use Rattle.rules.specs.Decode as D
@@ -19,6 +18,7 @@ use Rattle.nesting.proofs.ByKind.{size-vector, size-box, size-table, size-union
 use Rattle.nesting.proofs.Readiness.{row-size, few-elements}
 use Rattle.nesting.proofs.Members.{vector-in-use, box-in-use}
 use Rattle.reader.specs.declared.cursor.Cursor.{Cursor}
+use Rattle.reader.specs.declared.cursor.Stop.{Stop}
 use Rattle.reader.specs.declared.cursor.Walked.{Walked}
 use Rattle.reader.specs.declared.cursor.Walked.the-variants.{On, Refused}
 use Rattle.reader.specs.declared.records.Opening.{Opening}
@@ -79,7 +79,7 @@ module _ (rows members bytes : List ℕ) (handles depth row at : ℕ) (v v′ o 
     pub vector-closed : {d : Cursor} → r ≡ Closed d → ValueDid rows members bytes handles depth v v′ o o′ at c row (On d)
     vector-closed z = vector-row z
 
-    pub vector-refused : {f : Fault} → r ≡ Opened.Refused f → ValueDid rows members bytes handles depth v v′ o o′ at c row (Refused f)
+    pub vector-refused : {f : Stop} → r ≡ Opened.Refused f → ValueDid rows members bytes handles depth v v′ o o′ at c row (Refused f)
     vector-refused z = vector-row z
 
     pub vector-asks : {x : Opening} → r ≡ Open x → Ask (length bytes) handles (x .count * sizeOf (typeTable rows members) a) (x .start) (x .cursor)
@@ -108,7 +108,7 @@ module _ (rows members bytes : List ℕ) (handles depth row at : ℕ) (v v′ o 
     pub box-absent : {d : Cursor} → r ≡ Closed d → ValueDid rows members bytes handles depth v v′ o o′ at c row (On d)
     box-absent z = box-row z
 
-    pub box-refused : {f : Fault} → r ≡ Opened.Refused f → ValueDid rows members bytes handles depth v v′ o o′ at c row (Refused f)
+    pub box-refused : {f : Stop} → r ≡ Opened.Refused f → ValueDid rows members bytes handles depth v v′ o o′ at c row (Refused f)
     box-refused z = box-row z
 
     pub box-asks : {x : Opening} → r ≡ Open x → Ask (length bytes) handles (sizeOf (typeTable rows members) a) (x .start) (x .cursor)
@@ -136,7 +136,7 @@ module _ (rows members bytes : List ℕ) (handles depth row at : ℕ) (v v′ o 
     pub table-closed : {d : Cursor} → r ≡ Closed d → ValueDid rows members bytes handles depth v v′ o o′ at c row (On d)
     table-closed z = table-row z
 
-    pub table-refused : {f : Fault} → r ≡ Opened.Refused f → ValueDid rows members bytes handles depth v v′ o o′ at c row (Refused f)
+    pub table-refused : {f : Stop} → r ≡ Opened.Refused f → ValueDid rows members bytes handles depth v v′ o o′ at c row (Refused f)
     table-refused z = table-row z
 
     pub table-asks : {x : Opening} → r ≡ Open x → Ask (length bytes) handles (x .count * 8) (x .start) (x .cursor)
@@ -166,7 +166,7 @@ module _ (rows members bytes : List ℕ) (handles depth row at : ℕ) (v v′ o 
   pub union-none : {d : Cursor} → r ≡ None d → ValueDid rows members bytes handles depth v v′ o o at c row (On d)
   union-none z = union-row z
 
-  pub union-bad : {f : Fault} → r ≡ Bad f → ValueDid rows members bytes handles depth v v′ o o at c row (Refused f)
+  pub union-bad : {f : Stop} → r ≡ Bad f → ValueDid rows members bytes handles depth v v′ o o at c row (Refused f)
   union-bad z = union-row z
 
   pub union-asks : {what : Ordinal} {d : Cursor} → r ≡ Some what d → Ask (length bytes) handles 16 at c → Ask (length bytes) handles 7 (at + 8) d

@@ -7,9 +7,7 @@ use native.Mathlib.Omega.{arith}
 use borrow.Author.Tests.{eq-eqb, ne-eqb}
 use lib.ListN.{length, getD}
 use lib.Seq.{length-sets}
-use Rattle.rules.specs.declared.Fault.{Fault}
-use Rattle.rules.specs.declared.Place.the-variants.{Byte}
-use Rattle.rules.specs.Refusals.{fault, lastEnvelopeZero}
+use Rattle.rules.specs.Refusals.{lastEnvelopeZero}
 use Rattle.rules.specs.Bytes.{word}
 use Rattle.rules.specs.Decode as D
 use Rattle.rules.specs.Envelope.{contentOfEightBytes}
@@ -18,9 +16,10 @@ use Rattle.nesting.specs.declared.Ordinal.{Ordinal}
 use Rattle.nesting.specs.Ordinals.{ordinalIs, halved}
 use Rattle.nesting.proofs.Members.{MembersRise, ordinal-content}
 use Rattle.reader.specs.declared.cursor.Cursor.{Cursor}
+use Rattle.reader.specs.declared.cursor.Stop.{Stop}
 use Rattle.reader.specs.declared.cursor.Walked.{Walked}
 use Rattle.reader.specs.declared.cursor.Walked.the-variants.{On, Refused}
-use Rattle.reader.specs.Doing.{gaveOne, Did, Ask}
+use Rattle.reader.specs.Doing.{stop, gaveOne, Did, Ask}
 use Rattle.reader.specs.Walking.{here, envelopeAt, ContentDid, EnvelopesDid}
 use Rattle.reader.proofs.Steps.{did-stop, did-one}
 use Rattle.reader.proofs.Giving.{Gave, did-gave, ask-gave}
@@ -61,12 +60,12 @@ module _ (rows members bytes : List ℕ) (handles depth row count at : ℕ) (v o
           rw (← s, ← p) (run-on r (omega arith) did)
 
       module _ {loaded : ℕ} (l : loaded ≡ word bytes (at + i * 8) 8) where
-        pub last-absent : {w : Walked} → loaded ≡ 0 → i + 1 ≡ count → w ≡ Refused (fault lastEnvelopeZero (Byte (at + i * 8)))
+        pub last-absent : {w : Walked} → loaded ≡ 0 → i + 1 ≡ count → w ≡ Refused (stop lastEnvelopeZero (at + i * 8))
             → EnvelopesDid rows members bytes handles depth v v′ o o′ at c row count w
         unfolding D.optionalEnvelope
         last-absent z q y =
             let a = envelope-asks in
-            rw y (run-refused r (omega arith) (rw (zero-word bytes (at + i * 8) 8 (a .inside) (sym l ∙ z), eq-eqb (i + 1) count q) did-stop))
+            rw y (run-refused r (omega arith) (rw (zero-word bytes (at + i * 8) 8 (a .inside) (sym l ∙ z), eq-eqb (i + 1) count q) (did-stop (omega arith))))
 
         pub one-absent : {v″ : List ℕ} {e : Cursor} → loaded ≡ 0 → (i + 1 ≡ count → ⊥) → Gave v′ v″ d e 0
             → EnvelopesLeft rows members bytes handles depth row count at v v″ o o′ c e (i + 1)
@@ -87,7 +86,7 @@ module _ (rows members bytes : List ℕ) (handles depth row count at : ℕ) (v o
           pub one-present : {f : Cursor} → w ≡ On f → EnvelopesLeft rows members bytes handles depth row count at v v″ o o″ c f (i + 1)
           one-present y = turn (rw y at present)
 
-          pub one-refused : {f : Fault} → w ≡ Refused f → EnvelopesDid rows members bytes handles depth v v″ o o″ at c row count (Refused f)
+          pub one-refused : {f : Stop} → w ≡ Refused f → EnvelopesDid rows members bytes handles depth v v″ o o″ at c row count (Refused f)
           one-refused y = run-refused r (omega arith) (rw y at present)
 
           -- The lent lists are as long as they were.

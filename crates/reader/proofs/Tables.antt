@@ -10,7 +10,6 @@ use mir.Val.{Fits}
 use borrow.Author.Tests.{ne-eqb}
 use lib.Dec.{eqb}
 use lib.ListN.{length, set}
-use Rattle.rules.specs.declared.Fault.{Fault}
 use Rattle.rules.specs.declared.Place.the-variants.{Byte}
 use Rattle.rules.specs.Refusals.{fault, tooDeep, objectDoesNotFit, presenceWrong, requiredAbsent, lastEnvelopeZero}
 use Rattle.rules.specs.Bytes.{word, ones64}
@@ -22,11 +21,12 @@ use Rattle.rules.specs.Records.{presence, readTable}
 use Rattle.rules.specs.Envelope.{decodeContent}
 use Rattle.rules.specs.Walk as W
 use Rattle.reader.specs.declared.cursor.Cursor.{Cursor}
+use Rattle.reader.specs.declared.cursor.Stop.{Stop}
 use Rattle.reader.specs.declared.cursor.Walked.{Walked}
 use Rattle.reader.specs.declared.records.Opening.{Opening}
 use Rattle.reader.specs.declared.records.Opened.{Opened}
 use Rattle.reader.specs.declared.records.Opened.the-variants.{Closed, Open, Refused}
-use Rattle.reader.specs.Doing.{message, gaveOne, Ask}
+use Rattle.reader.specs.Doing.{message, stop, gaveOne, Ask}
 use Rattle.reader.specs.Opening.{Opens, HasCount, tableAt}
 use Rattle.reader.specs.Contracts.{DeeperOpens, EnvelopesOpen, TableOpens}
 use Rattle.reader.proofs.Steps.{did-stop}
@@ -67,16 +67,16 @@ last-judged m size (suc count) envelopes at n u h = let e : suc count - 1 ≡ co
 -- ---- the envelopes, one level deeper
 
 module _ (bytes : List ℕ) (handles depth : ℕ) (objects : List ℕ) (at : ℕ) (c : Cursor) (row count : ℕ) where
-  pub envelopes-spent : {f : Fault} → depth ≡ 0 → f ≡ fault tooDeep (Byte at) → EnvelopesOpen bytes handles depth objects objects at c row count (Refused f)
+  pub envelopes-spent : {f : Stop} → depth ≡ 0 → f ≡ stop tooDeep at → EnvelopesOpen bytes handles depth objects objects at c row count (Refused f)
   envelopes-spent h e rows members values envelopes = deeper-spent bytes handles depth objects at c envelopesObject row (count * 8) h e rows members values _
 
   -- So many fit in no message.
-  pub envelopes-over : {f : Fault} → (depth ≡ 0 → ⊥) → Ask (length bytes) handles 4 at c → 8192 < count → f ≡ fault objectDoesNotFit (Byte (c .next))
+  pub envelopes-over : {f : Stop} → (depth ≡ 0 → ⊥) → Ask (length bytes) handles 4 at c → 8192 < count → f ≡ stop objectDoesNotFit (c .next)
       → EnvelopesOpen bytes handles depth objects objects at c row count (Refused f)
   envelopes-over h ask over e rows members values envelopes =
       let m = message rows members bytes handles in
       let longer : length bytes < count * 8 = omega arith in
-      rw (e, levels-down m depth h, claim-over m envelopesObject row (count * 8) _ at (c .next) (c .handles) longer) did-stop
+      rw (e, levels-down m depth h, claim-over m envelopesObject row (count * 8) _ at (c .next) (c .handles) longer) (did-stop (omega arith))
 
   module _ (objects′ : List ℕ) (r : Opened) (opens : DeeperOpens bytes handles depth objects objects′ at c envelopesObject row (count * 8) r) where
     judged : (rows members values : List ℕ) (envelopes : D.Deeper → Decoder)
@@ -90,21 +90,21 @@ module _ (bytes : List ℕ) (handles depth : ℕ) (objects : List ℕ) (at : ℕ
     pub envelopes-closed : {e : Cursor} → r ≡ Closed e → EnvelopesOpen bytes handles depth objects objects′ at c row count (Closed e)
     envelopes-closed h rows members values envelopes = rw h at (judged rows members values envelopes)
 
-    pub envelopes-refused : {f : Fault} → r ≡ Refused f → EnvelopesOpen bytes handles depth objects objects′ at c row count (Refused f)
+    pub envelopes-refused : {f : Stop} → r ≡ Refused f → EnvelopesOpen bytes handles depth objects objects′ at c row count (Refused f)
     envelopes-refused h rows members values envelopes = rw h at (judged rows members values envelopes)
 
     module _ {x : Opening} (opened : r ≡ Open x) where
       pub last-fits : Fits w64 (x .start + (count - 1) * 8)
       last-fits = let ask = deeper-ask bytes handles depth objects objects′ at c envelopesObject row (count * 8) r opens opened in omega arith
 
-      pub envelopes-last-zero : {f : Fault} {last : ℕ} → 0 < count → last ≡ word bytes (x .start + (count - 1) * 8) 8 → last ≡ 0
-          → f ≡ fault lastEnvelopeZero (Byte (x .start + (count - 1) * 8)) → EnvelopesOpen bytes handles depth objects objects′ at c row count (Refused f)
+      pub envelopes-last-zero : {f : Stop} {last : ℕ} → 0 < count → last ≡ word bytes (x .start + (count - 1) * 8) 8 → last ≡ 0
+          → f ≡ stop lastEnvelopeZero (x .start + (count - 1) * 8) → EnvelopesOpen bytes handles depth objects objects′ at c row count (Refused f)
       envelopes-last-zero {f} some loaded z e rows members values envelopes =
           let m = message rows members bytes handles in
           let o = rw opened at (judged rows members values envelopes) in
           let inside : x .start + (count - 1) * 8 + 8 ≤ length bytes = omega (arith, o .0 .inside) in
           let zeros = zero-word (m .bytes) (x .start + (count - 1) * 8) 8 inside (sym loaded ∙ z) in
-          o .1 values objects′ (Walked.Refused f) (rw (e, last-judged m 8 count, zeros) did-stop)
+          o .1 values objects′ (Walked.Refused f) (rw (e, last-judged m 8 count, zeros) (did-stop (omega arith)))
 
       pub envelopes-none : count ≤ 0 → EnvelopesOpen bytes handles depth objects objects′ at c row count (Open x)
       envelopes-none none rows members values envelopes =
@@ -127,14 +127,14 @@ envelopesIn m row content count below =
 
 module _ (bytes : List ℕ) (handles depth : ℕ) (values objects : List ℕ) (at : ℕ) (c : Cursor) (row : ℕ) {count says : ℕ}
     (counted : count ≡ word bytes at 8) (said : says ≡ word bytes (at + 8) 8) where
-  pub table-absent : {f : Fault} → says ≡ 0 → f ≡ fault requiredAbsent (Byte at) → TableOpens bytes handles depth values values objects objects at c row (Refused f)
+  pub table-absent : {f : Stop} → says ≡ 0 → f ≡ stop requiredAbsent at → TableOpens bytes handles depth values values objects objects at c row (Refused f)
   table-absent p e rows members content =
-      rw (e, record-wrong 16 _ _ at (c .next) (c .handles) (read-absent (message rows members bytes handles) at counted said p)) did-stop
+      rw (e, record-wrong 16 _ _ at (c .next) (c .handles) (read-absent (message rows members bytes handles) at counted said p)) (did-stop (omega arith))
 
-  pub table-neither : {f : Fault} → (says ≡ 0 → ⊥) → (says ≡ ones64 → ⊥) → f ≡ fault presenceWrong (Byte at)
+  pub table-neither : {f : Stop} → (says ≡ 0 → ⊥) → (says ≡ ones64 → ⊥) → f ≡ stop presenceWrong at
       → TableOpens bytes handles depth values values objects objects at c row (Refused f)
   table-neither p q e rows members content =
-      rw (e, record-wrong 16 _ _ at (c .next) (c .handles) (read-neither (message rows members bytes handles) at counted said p q)) did-stop
+      rw (e, record-wrong 16 _ _ at (c .next) (c .handles) (read-neither (message rows members bytes handles) at counted said p q)) (did-stop (omega arith))
 
   table-whole : (rows members : List ℕ) (content : ℕ → Content) → says ≡ ones64
       → tableAt (message rows members bytes handles) depth row content at (c .next) (c .handles)

@@ -7,7 +7,6 @@ use Prim.Native.Nat.{ℕ, _+_, _-_, _≤_, _<_}
 use native.Mathlib.Omega.{arith}
 use lib.ListN.{length, getD, set}
 use lib.Seq.{length-sets}
-use Rattle.rules.specs.declared.Fault.{Fault}
 use Rattle.rules.specs.Refusals.{accepted}
 use Rattle.rules.specs.TypeTable.{typeTable}
 use Rattle.rules.specs.Sizes.{layoutOf, sizeOf}
@@ -27,6 +26,7 @@ use Rattle.nesting.proofs.Steps.{Known, Stepped, fuel}
 use Rattle.nesting.proofs.Going.{Going, Bounded, Opens}
 use Rattle.nesting.proofs.Turns as Nested
 use Rattle.reader.specs.declared.cursor.Cursor.{Cursor}
+use Rattle.reader.specs.declared.cursor.Stop.{Stop}
 use Rattle.reader.specs.declared.cursor.Walked.{Walked}
 use Rattle.reader.specs.declared.cursor.Walked.the-variants.{On, Refused}
 use Rattle.reader.specs.Doing.{message, valuesOf, Did, Ask}
@@ -101,7 +101,7 @@ module _ {rows members sizes alignments bytes : List ℕ} {handles depth top at 
           let turn = Nested.turn-filled ready short (is q) (w .going) (ValueLeft rows members bytes handles depth top at v o c v′ o′ d′) (rw on at left) in
           (record { lengths = w .lengths; going = turn .0 }, turn .1)
 
-      pub turn-fill-refused : {next : ℕ} → step ≡ Fill next → {x : Walked} {f : Fault} → DidNeither bytes 0 place d x (λ m. D.fill m (next - place)) → x ≡ Refused f
+      pub turn-fill-refused : {next : ℕ} → step ≡ Fill next → {x : Walked} {f : Stop} → DidNeither bytes 0 place d x (λ m. D.fill m (next - place)) → x ≡ Refused f
           → ValueDid rows members bytes handles depth v v′ o o′ at c top (Refused f)
       turn-fill-refused {next} q did same = item-refused (Nested.turn-fill ready short (is q) (w .going) .2) (filled next did same)
 
@@ -131,7 +131,7 @@ module _ {rows members sizes alignments bytes : List ℕ} {handles depth top at 
             turn .1,
           )
 
-      pub turn-call-refused : {part : ℕ} → step ≡ Call part → {v″ o″ : List ℕ} {x : Walked} {f : Fault} → ValueDid rows members bytes handles depth v′ v″ o′ o″ place d part x → x ≡ Refused f
+      pub turn-call-refused : {part : ℕ} → step ≡ Call part → {v″ o″ : List ℕ} {x : Walked} {f : Stop} → ValueDid rows members bytes handles depth v′ v″ o′ o″ place d part x → x ≡ Refused f
           → ValueDid rows members bytes handles depth v v″ o o″ at c top (Refused f)
       turn-call-refused q did same = item-refused (Nested.turn-call ready short (is q) (w .going) .2) (rw same at did)
 

@@ -9,9 +9,7 @@ use native.Mathlib.Omega.{arith}
 use borrow.Author.Tests.{eq-eqb, ne-eqb, le-leb, lt-leb}
 use lib.Dec.{ltb, eqb}
 use lib.ListN.{length}
-use Rattle.rules.specs.declared.Fault.{Fault}
-use Rattle.rules.specs.declared.Place.the-variants.{Byte}
-use Rattle.rules.specs.Refusals.{fault, tooFewHandles, envelopeFormWrong}
+use Rattle.rules.specs.Refusals.{tooFewHandles, envelopeFormWrong}
 use Rattle.rules.specs.Trace.{unknownContent, unknownObject, objectList}
 use Rattle.rules.specs.Bytes.{word, padded}
 use Rattle.rules.proofs.Bytes.{padded-above}
@@ -20,9 +18,10 @@ use Rattle.rules.specs.Decode.{Message, Decoded}
 use Rattle.rules.specs.Envelope.{inLine, outOfLine, decodeWord, unknownInLine, unknownOutOfLine, unknownEnvelope}
 use Rattle.rules.specs.Walk as W
 use Rattle.reader.specs.declared.cursor.Cursor.{Cursor}
+use Rattle.reader.specs.declared.cursor.Stop.{Stop}
 use Rattle.reader.specs.declared.cursor.Walked.{Walked}
 use Rattle.reader.specs.declared.cursor.Walked.the-variants.{On, Refused}
-use Rattle.reader.specs.Doing.{message, load, Did, Ask}
+use Rattle.reader.specs.Doing.{message, stop, load, Did, Ask}
 use Rattle.reader.specs.Parts.{claimAt, numbersAt, DidObjects, DidValues}
 use Rattle.reader.specs.Opening.{rawWords}
 use Rattle.reader.specs.Contracts.{TakenDid, RawWordsDid}
@@ -35,11 +34,11 @@ use Rattle.reader.proofs.Claiming.{claim-then, claim-anywhere, claim-on
 -- ---- handles
 
 module _ (rows members bytes values objects : List ℕ) (handles number content at from : ℕ) (c : Cursor) where
-  pub taken-few : {r : Walked} → handles < c .handles + number → r ≡ Refused (fault tooFewHandles (Byte at))
+  pub taken-few : {r : Walked} → handles < c .handles + number → r ≡ Refused (stop tooFewHandles at)
       → Did (length bytes) handles 0 values values objects objects c r
       (D.takeHandles (message rows members bytes handles) at (unknownContent content number) from (c .next) (c .handles))
   unfolding D.takeHandles
-  taken-few h y = rw (lt-leb _ _ h, y) did-stop
+  taken-few h y = rw (lt-leb _ _ h, y) (did-stop (omega arith))
 
   pub taken-all : c .handles + number ≤ handles → c .next ≤ length bytes
       → Did (length bytes) handles 0 values values objects objects c
@@ -105,7 +104,7 @@ words-parts m row size number at n u =
 
 module _ (bytes objects objects′ : List ℕ) (handles row size number at : ℕ) (c : Cursor) {x : Walked} (ask : Ask (length bytes) handles 5 at c)
     (claim : DidObjects bytes objects objects′ 4 0 c x (claimAt unknownObject row size)) where
-  pub claim-refused : (rows members values : List ℕ) {f : Fault} → x ≡ Refused f
+  pub claim-refused : (rows members values : List ℕ) {f : Stop} → x ≡ Refused f
       → Did (length bytes) handles 5 values values objects objects′ c (Refused f) (rawWords (message rows members bytes handles) row size number at (c .next) (c .handles))
   claim-refused rows members values e =
       rw (words-parts (message rows members bytes handles) row size number at (c .next) (c .handles))
@@ -125,7 +124,7 @@ module _ (bytes objects objects′ : List ℕ) (handles row size number at : ℕ
         (w .0, w .1, q .0, omega arith)
 
     module _ {y : Walked} (taken : TakenDid handles number at d y) where
-      pub handles-refused : (rows members values : List ℕ) {f : Fault} → y ≡ Refused f
+      pub handles-refused : (rows members values : List ℕ) {f : Stop} → y ≡ Refused f
           → Did (length bytes) handles 5 values values objects objects′ c (Refused f) (rawWords (message rows members bytes handles) row size number at (c .next) (c .handles))
       handles-refused rows members values e =
           rw (words-parts (message rows members bytes handles) row size number at (c .next) (c .handles))
@@ -176,10 +175,10 @@ module _ (rows members bytes values values′ objects objects′ : List ℕ) (ha
         let w′ : (eqb form outOfLine && (eqb (word bytes at 4 % 8) 0 && ltb 0 (word bytes at 4))) ≡ true = rw (← l) w in
         rw (← q, ne-eqb _ _ n, w′) d
 
-    pub form-neither : (eqb form outOfLine && (eqb (low % 8) 0 && ltb 0 low)) ≡ false → r ≡ Refused (fault envelopeFormWrong (Byte at))
+    pub form-neither : (eqb form outOfLine && (eqb (low % 8) 0 && ltb 0 low)) ≡ false → r ≡ Refused (stop envelopeFormWrong at)
         → Did (length bytes) handles 7 values values objects objects c r
         (unknownEnvelope (message rows members bytes handles) (W.levels (message rows members bytes handles) depth) row at (c .next) (c .handles))
     unfolding unknownEnvelope
     form-neither w y =
         let w′ : (eqb form outOfLine && (eqb (word bytes at 4 % 8) 0 && ltb 0 (word bytes at 4))) ≡ false = rw (← l) w in
-        rw (← q, ne-eqb _ _ n, w′, y) did-stop
+        rw (← q, ne-eqb _ _ n, w′, y) (did-stop (omega arith))

@@ -23,11 +23,11 @@ use Rattle.reader.specs.declared.records.Opened.{Opened}
 use Rattle.reader.specs.declared.envelopes.Member.{Member}
 use Rattle.reader.specs.declared.envelopes.Member.the-variants.{None, Some, Bad}
 use Rattle.reader.specs.Doing.{message, Did}
-use Rattle.reader.specs.Opening.{countOf, Opens, OpensMember, countedAt, vectorAt, stringAt, boxAt, tableAt, unionAt, elementsOf, valueOf, envelopesOf, rawWords, sealedAt, payloadOf}
+use Rattle.reader.specs.Opening.{countOf, CountFits, Opens, OpensMember, countedAt, vectorAt, stringAt, boxAt, tableAt, unionAt, elementsOf, valueOf, envelopesOf, rawWords, sealedAt, payloadOf}
 
 abbrev pub CountAt : (bytes : List ℕ) (optional largest at : ℕ) → Count → Type 0
 CountAt bytes optional largest at r =
-    (rows members : List ℕ) (handles : ℕ) → countOf r ≡ readCount (message rows members bytes handles) (eqb optional 1) largest at
+    (rows members : List ℕ) (handles : ℕ) → (countOf r ≡ readCount (message rows members bytes handles) (eqb optional 1) largest at) × CountFits r
 
 module _ (bytes : List ℕ) (handles depth : ℕ) (values values′ objects objects′ : List ℕ) (at : ℕ) (c : Cursor) where
   -- A count's record and the object that it leads to, whatever is walked in it, as `fields` makes it of the count and of what lies deeper.
@@ -142,5 +142,5 @@ ContentIs members first count ordinal r = (rows : List ℕ) → ordinalIs r ≡ 
 -- The member that a union's ordinal stands for.
 abbrev pub MemberIs : (bytes members : List ℕ) (first count at : ℕ) → Member → Type 0
 MemberIs bytes members first count at (None e) = Unit {0}
-MemberIs bytes members first count at (Bad f) = Unit {0}
+MemberIs bytes members first count at (Bad s) = Unit {0}
 MemberIs bytes members first count at (Some what e) = ContentIs members first count (word bytes at 8) what

@@ -14,6 +14,7 @@ use crate::claims::claim;
 use crate::cursor::Cursor;
 use crate::cursor::Walked;
 use crate::cursor::fault_at;
+use crate::cursor::fault_of;
 use crate::walk::value;
 use layout::Soundness;
 use layout::prepare;
@@ -136,7 +137,7 @@ pub fn pass(
         values,
         objects,
     ) {
-        Walked::Refused(f) => Reading::Refused(f),
+        Walked::Refused(s) => Reading::Refused(fault_of(s)),
         Walked::On(end) => after(end, bytes.len(), held),
     }
 }
