@@ -1,156 +1,18 @@
 // Text: is a part of a message UTF-8, by RFC 3629's byte ranges (13; the writer's 26).
 ghost use mathlib.Core.Path.{_≡_};
 ghost use mathlib.Core.Bool.{true};
+ghost use mathlib.Core.List.{[], _∷_};
 ghost use Prim.Native.Nat.{_+_, _≤_, _<_};
-ghost use lib.ListN.{length};
+ghost use lib.ListN.{length, getD, drop};
 ghost use Rattle.rules.specs.Bytes.{part};
-ghost use Rattle.rules.specs.Text.{range, holds, isUtf8, forms, leads};
-ghost use Rattle.text.specs.Sequences.{ledBy, Judged, Passes, Skips, FollowedBy};
-
-// The bounds of UTF8-tail.
-const TAIL_LOW: u8 = 0x80;
-
-const TAIL_HIGH: u8 = 0xBF;
-
-// What a byte leads: a sequence of so many bytes after it, the first of them from a low to a high bound and the others
-// UTF8-tail; or none.
-enum Lead {
-    Sequence(usize, u8, u8),
-    NotALead,
-}
-
-// What is due of a sequence: so many bytes, the first of them from a low to a high bound and the others UTF8-tail.
-struct Due {
-    after: usize,
-    low: u8,
-    high: u8,
-}
-
-enum Followed {
-    By(Due),
-    Wrong,
-}
+ghost use Rattle.rules.specs.Text.{tail, holds, isUtf8};
+ghost use Rattle.text.specs.Sequences.{Tail, sequenceOf, Passes};
 
 // Are the `count` bytes of a message from a place on UTF-8? What would lie past the message's end is no part of it.
 pub fn is_utf8(bytes: &[u8], at: usize, count: usize) -> bool
     ensures { λ r. ⌜ r ≡ isUtf8 (part (now (bytes .entry)) at count) ⌝ }
 {
     is_text(part_of(bytes, at, count))
-}
-
-// Are numbers UTF-8, each of them a byte? The writer judges text so, before it has written any.
-pub fn are_utf8(numbers: &[u64]) -> bool
-    ensures { λ r. ⌜ r ≡ isUtf8 (now (numbers .entry)) ⌝ }
-{
-    let mut due = Due {
-        after: 0,
-        low: TAIL_LOW,
-        high: TAIL_HIGH,
-    };
-    let mut at = past_sixteens(numbers, 0);
-    while at < numbers.len() {
-        match follow(due, numbers[at]) {
-            Followed::By(next) => {
-                due = next;
-            }
-            Followed::Wrong => {
-                return false;
-            }
-        }
-        at = skipped(numbers, due, at + 1);
-    }
-    due.after == 0
-}
-
-// Between sequences a run of ASCII is passed.
-fn skipped(numbers: &[u64], due: Due, at: usize) -> usize
-    requires { ⌜ at ≤ length (now numbers) ⌝ }
-    ensures { λ r. ⌜ Skips (now (numbers .entry)) due at r ⌝ }
-{
-    if due.after != 0 {
-        return at;
-    }
-    past_ascii_numbers(numbers, at)
-}
-
-fn past_ascii_numbers(numbers: &[u64], from: usize) -> usize
-    requires { ⌜ from ≤ length (now numbers) ⌝ }
-    ensures { λ r. ⌜ Passes (now (numbers .entry)) from r ⌝ }
-{
-    let mut at = from;
-    while at < numbers.len() {
-        if 0x80 <= numbers[at] {
-            return at;
-        }
-        at = sixteens_from(numbers, at + 1);
-    }
-    at
-}
-
-// Whole sixteens are tried at every sixteenth number, so that a short run costs no more for them.
-fn sixteens_from(numbers: &[u64], at: usize) -> usize
-    requires { ⌜ at ≤ length (now numbers) ⌝ }
-    ensures { λ r. ⌜ Passes (now (numbers .entry)) at r ⌝ }
-{
-    if at % 16 != 0 {
-        return at;
-    }
-    past_sixteens(numbers, at)
-}
-
-fn past_sixteens(numbers: &[u64], from: usize) -> usize
-    requires { ⌜ from ≤ length (now numbers) ⌝ }
-    ensures { λ r. ⌜ Passes (now (numbers .entry)) from r ⌝ }
-{
-    let mut at = from;
-    while 16 <= numbers.len() - at {
-        if 0x80 <= bits_of_sixteen(numbers, at) {
-            return at;
-        }
-        at += 16;
-    }
-    at
-}
-
-// All the bits of sixteen numbers. There is no branch for each.
-fn bits_of_sixteen(numbers: &[u64], at: usize) -> u64
-    requires { ⌜ at + 16 ≤ length (now numbers) ⌝ }
-    ensures { λ r. ⌜ (r < 0x80 → Passes (now (numbers .entry)) at (at + 16)) ⌝ }
-{
-    let mut bits: u64 = 0;
-    let mut next = at;
-    let end = at + 16;
-    while next < end {
-        bits = bits | numbers[next];
-        next += 1;
-    }
-    bits
-}
-
-// What a number leads to, where so much is due.
-fn follow(due: Due, number: u64) -> Followed
-    ensures { λ r. ⌜ FollowedBy due number r ⌝ }
-{
-    if due.after == 0 {
-        if 255 < number {
-            return Followed::Wrong;
-        }
-        return match lead_of(number as u8) {
-            Lead::Sequence(after, low, high) => Followed::By(Due { after, low, high }),
-            Lead::NotALead => Followed::Wrong,
-        };
-    }
-    if number < due.low as u64 {
-        return Followed::Wrong;
-    }
-    if (due.high as u64) < number {
-        return Followed::Wrong;
-    }
-    Followed::By(Due {
-        after: due.after - 1,
-        low: TAIL_LOW,
-        high: TAIL_HIGH,
-    })
 }
 
 fn part_of(bytes: &[u8], at: usize, count: usize) -> &[u8]
@@ -177,84 +39,158 @@ fn is_text(text: &[u8]) -> bool
             at = past_ascii(text, at + 1);
             continue;
         }
-        let Lead::Sequence(after, low, high) = lead_of(text[at]) else {
-            return false;
-        };
-        if text.len() - at <= after {
+        let count = byte_sequence(text, at);
+        if count == 0 {
             return false;
         }
-        if !is_followed(text, at + 1, after, low, high) {
-            return false;
-        }
-        at = at + 1 + after;
+        at += count;
     }
     true
 }
 
-// The decision on a lead byte: the forms of UTF8-char, in the grammar's order.
-fn lead_of(byte: u8) -> Lead
-    ensures { λ r. ⌜ ledBy r ≡ leads forms byte ⌝ }
+// Are numbers UTF-8, each of them a byte? The writer judges text so, before it has written any.
+pub fn are_utf8(numbers: &[u64]) -> bool
+    ensures { λ r. ⌜ r ≡ isUtf8 (now (numbers .entry)) ⌝ }
 {
-    if byte < 0x80 {
-        return Lead::Sequence(0, TAIL_LOW, TAIL_HIGH);
+    let mut at = past_sixteens(numbers, 0);
+    while at < numbers.len() {
+        if numbers[at] < 0x80 {
+            at = past_ascii_numbers(numbers, at + 1);
+            continue;
+        }
+        let count = number_sequence(numbers, at);
+        if count == 0 {
+            return false;
+        }
+        at += count;
     }
-    if byte < 0xC2 {
-        return Lead::NotALead;
-    }
-    if byte < 0xE0 {
-        return Lead::Sequence(1, TAIL_LOW, TAIL_HIGH);
-    }
-    if byte == 0xE0 {
-        return Lead::Sequence(2, 0xA0, TAIL_HIGH);
-    }
-    if byte < 0xED {
-        return Lead::Sequence(2, TAIL_LOW, TAIL_HIGH);
-    }
-    if byte == 0xED {
-        return Lead::Sequence(2, TAIL_LOW, 0x9F);
-    }
-    if byte < 0xF0 {
-        return Lead::Sequence(2, TAIL_LOW, TAIL_HIGH);
-    }
-    if byte == 0xF0 {
-        return Lead::Sequence(3, 0x90, TAIL_HIGH);
-    }
-    if byte < 0xF4 {
-        return Lead::Sequence(3, TAIL_LOW, TAIL_HIGH);
-    }
-    if byte == 0xF4 {
-        return Lead::Sequence(3, TAIL_LOW, 0x8F);
-    }
-    Lead::NotALead
+    true
 }
 
-// Are the bytes after a lead byte, three at most, those that it asks for?
-fn is_followed(text: &[u8], at: usize, after: usize, low: u8, high: u8) -> bool
-    requires { ⌜ (at + after ≤ length (now text)) × (after ≤ 3) ⌝ }
-    ensures { λ r. ⌜ Judged (now (text .entry)) at after low high r ⌝ }
+// How many bytes has the sequence that four numbers start with, 0 where it is none? Past the end of a text the numbers are 0,
+// and no tail is 0.
+fn sequence(lead: u64, second: u64, third: u64, fourth: u64) -> usize
+    requires { ⌜ 0x80 ≤ lead ⌝ }
+    ensures { λ r. ⌜ r ≡ sequenceOf (lead ∷ second ∷ third ∷ fourth ∷ []) ⌝ }
 {
-    if after == 0 {
-        return true;
+    if lead < 0xC2 {
+        return 0;
     }
-    if !is_within(text[at], low, high) {
-        return false;
+    if 0xF4 < lead {
+        return 0;
     }
-    if after == 1 {
-        return true;
+    if !is_tail(second) {
+        return 0;
     }
-    if !is_within(text[at + 1], TAIL_LOW, TAIL_HIGH) {
-        return false;
+    if lead < 0xE0 {
+        return 2;
     }
-    if after == 2 {
-        return true;
+    if !is_tail(third) {
+        return 0;
     }
-    is_within(text[at + 2], TAIL_LOW, TAIL_HIGH)
+    longer(lead, second, third, fourth)
 }
 
-fn is_within(byte: u8, low: u8, high: u8) -> bool
-    ensures { λ r. ⌜ r ≡ holds (range low high) byte ⌝ }
+// Of three or four bytes. Some leads bound the second byte more narrowly: `pair` holds both.
+fn longer(lead: u64, second: u64, third: u64, fourth: u64) -> usize
+    requires { ⌜ (0xE0 ≤ lead) × (lead ≤ 0xF4) × Tail second × Tail third ⌝ }
+    ensures { λ r. ⌜ r ≡ sequenceOf (lead ∷ second ∷ third ∷ fourth ∷ []) ⌝ }
 {
-    (low <= byte) & (byte <= high)
+    let pair = lead * 0x100 + second;
+    if pair < 0xE0A0 {
+        return 0;
+    }
+    if pair < 0xEDA0 {
+        return 3;
+    }
+    if pair < 0xEE80 {
+        return 0;
+    }
+    if pair < 0xF080 {
+        return 3;
+    }
+    if pair < 0xF090 {
+        return 0;
+    }
+    if 0xF48F < pair {
+        return 0;
+    }
+    if !is_tail(fourth) {
+        return 0;
+    }
+    4
+}
+
+fn is_tail(number: u64) -> bool
+    ensures { λ r. ⌜ r ≡ holds tail number ⌝ }
+{
+    (0x80 <= number) & (number <= 0xBF)
+}
+
+// How many bytes has the sequence at a place? Only near the end of the text is each byte asked for.
+fn byte_sequence(text: &[u8], at: usize) -> usize
+    requires { ⌜ (at < length (now text)) × (0x80 ≤ getD (now text) at 0) ⌝ }
+    ensures { λ r. ⌜ r ≡ sequenceOf (drop at (now (text .entry))) ⌝ }
+{
+    if 4 <= text.len() - at {
+        return sequence_of_bytes(text[at], text[at + 1], text[at + 2], text[at + 3]);
+    }
+    sequence_of_bytes(
+        text[at],
+        byte_after(text, at, 1),
+        byte_after(text, at, 2),
+        byte_after(text, at, 3),
+    )
+}
+
+fn byte_after(text: &[u8], at: usize, ahead: usize) -> u8
+    requires { ⌜ at ≤ length (now text) ⌝ }
+    ensures { λ r. ⌜ r ≡ getD (now (text .entry)) (at + ahead) 0 ⌝ }
+{
+    if ahead < text.len() - at {
+        text[at + ahead]
+    } else {
+        0
+    }
+}
+
+fn sequence_of_bytes(lead: u8, second: u8, third: u8, fourth: u8) -> usize
+    requires { ⌜ 0x80 ≤ lead ⌝ }
+    ensures { λ r. ⌜ r ≡ sequenceOf (lead ∷ second ∷ third ∷ fourth ∷ []) ⌝ }
+{
+    sequence(lead as u64, second as u64, third as u64, fourth as u64)
+}
+
+// As `byte_sequence`, over numbers.
+fn number_sequence(numbers: &[u64], at: usize) -> usize
+    requires { ⌜ (at < length (now numbers)) × (0x80 ≤ getD (now numbers) at 0) ⌝ }
+    ensures { λ r. ⌜ r ≡ sequenceOf (drop at (now (numbers .entry))) ⌝ }
+{
+    if 4 <= numbers.len() - at {
+        return sequence(
+            numbers[at],
+            numbers[at + 1],
+            numbers[at + 2],
+            numbers[at + 3],
+        );
+    }
+    sequence(
+        numbers[at],
+        number_after(numbers, at, 1),
+        number_after(numbers, at, 2),
+        number_after(numbers, at, 3),
+    )
+}
+
+fn number_after(numbers: &[u64], at: usize, ahead: usize) -> u64
+    requires { ⌜ at ≤ length (now numbers) ⌝ }
+    ensures { λ r. ⌜ r ≡ getD (now (numbers .entry)) (at + ahead) 0 ⌝ }
+{
+    if ahead < numbers.len() - at {
+        numbers[at + ahead]
+    } else {
+        0
+    }
 }
 
 // The place after a run of ASCII, byte by byte after whole eights.
@@ -324,4 +260,58 @@ fn eight_ascii(text: &[u8], at: usize) -> bool
         next += 1;
     }
     ascii
+}
+
+fn past_ascii_numbers(numbers: &[u64], from: usize) -> usize
+    requires { ⌜ from ≤ length (now numbers) ⌝ }
+    ensures { λ r. ⌜ Passes (now (numbers .entry)) from r ⌝ }
+{
+    let mut at = from;
+    while at < numbers.len() {
+        if 0x80 <= numbers[at] {
+            return at;
+        }
+        at = sixteens_from(numbers, at + 1);
+    }
+    at
+}
+
+// Whole sixteens are tried at every sixteenth number, so that a short run costs no more for them.
+fn sixteens_from(numbers: &[u64], at: usize) -> usize
+    requires { ⌜ at ≤ length (now numbers) ⌝ }
+    ensures { λ r. ⌜ Passes (now (numbers .entry)) at r ⌝ }
+{
+    if at % 16 != 0 {
+        return at;
+    }
+    past_sixteens(numbers, at)
+}
+
+fn past_sixteens(numbers: &[u64], from: usize) -> usize
+    requires { ⌜ from ≤ length (now numbers) ⌝ }
+    ensures { λ r. ⌜ Passes (now (numbers .entry)) from r ⌝ }
+{
+    let mut at = from;
+    while 16 <= numbers.len() - at {
+        if 0x80 <= bits_of_sixteen(numbers, at) {
+            return at;
+        }
+        at += 16;
+    }
+    at
+}
+
+// All the bits of sixteen numbers. There is no branch for each.
+fn bits_of_sixteen(numbers: &[u64], at: usize) -> u64
+    requires { ⌜ at + 16 ≤ length (now numbers) ⌝ }
+    ensures { λ r. ⌜ (r < 0x80 → Passes (now (numbers .entry)) at (at + 16)) ⌝ }
+{
+    let mut bits: u64 = 0;
+    let mut next = at;
+    let end = at + 16;
+    while next < end {
+        bits = bits | numbers[next];
+        next += 1;
+    }
+    bits
 }

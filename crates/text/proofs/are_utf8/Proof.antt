@@ -1,23 +1,31 @@
--- `text::are_utf8` meets its contract: what is due and the numbers from a place on decide the whole.
+-- `text::are_utf8` meets its contract. The loop's invariant: the text may be judged from the place reached on. The
+-- measure is what is left of the text.
 -- Assumes nothing.
-use mathlib.Core.Path.{_≡_}
-use Prim.Native.Nat.{_-_, _≤_}
+use Prim.Native.Nat.{_-_}
+use native.Mathlib.Omega.{arith}
 use borrow.Author.Needs.{needs}
 use lib.ListN.{length}
-use Rattle.text.proofs.Following.{Decides, decides-start, decides-next, decides-wrong, decides-end}
+use Rattle.text.specs.Sequences.{Passes}
+use Rattle.text.proofs.Laws.{nothing-passed, byte-passed, both-passed, sequence-passed, text-ends, text-breaks}
 use Rattle.text.proofs.are_utf8.Statement.{statement}
 use Rattle.text.proofs.are_utf8.Tie as tie
 
 abbrev Inv-loop : tie.InvT-loop
-Inv-loop numbers due₀ at₀ due at = Decides numbers due at
+Inv-loop numbers at₀ at = Passes numbers 0 at
 
 abbrev μ-loop : tie.MeasureT-loop
-μ-loop numbers due₀ at₀ due at = length numbers - at
+μ-loop numbers at₀ at = length numbers - at
+
+add-at : tie.Need-add-at Inv-loop μ-loop
+add-at c =
+    let passed = sequence-passed (c .before .before .before .before .before .loop .inv) (omega arith) (c .before .number-sequence .ensures) (c .if2 .left) in
+    search needs
 
 pub are-utf8-spec : {M : Type 1} → statement M
 are-utf8-spec =
     tie.close
     (tie.spec
-    Inv-loop μ-loop (λ c κs. search needs) (λ c. search (needs, decides-start)) (λ c. search needs) (λ c. search needs)
-    (λ c κs. search needs) (λ c. search needs) (λ c. search needs) (λ c. search (needs, decides-wrong)) (λ c. search needs)
-    (λ c κs. search needs) (λ c. search needs) (λ c. search (needs, decides-next)) (λ c. search (needs, decides-end)))
+    Inv-loop μ-loop (λ c κs. search needs) (λ c. search needs) (λ c. search needs) (λ c. search needs)
+    (λ c. search needs) (λ c κs. search needs) (λ c. search needs) (λ c. search (needs, both-passed, byte-passed))
+    (λ c κs. search needs) (λ c. search (needs, text-breaks)) add-at (λ c. search needs)
+    (λ c. search (needs, sequence-passed)) (λ c. search (needs, text-ends)))

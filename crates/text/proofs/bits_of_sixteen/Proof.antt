@@ -6,8 +6,7 @@ use Prim.Native.Nat.{_+_, _-_, _≤_, _<_}
 use native.Mathlib.Omega.{arith}
 use borrow.Author.Needs.{needs}
 use Rattle.text.specs.Sequences.{Passes}
-use Rattle.text.proofs.Laws.{nothing-passed}
-use Rattle.text.proofs.Following.{bits-passed}
+use Rattle.text.proofs.Laws.{nothing-passed, bits-passed}
 use Rattle.text.proofs.bits_of_sixteen.Statement.{statement}
 use Rattle.text.proofs.bits_of_sixteen.Tie as tie
 
