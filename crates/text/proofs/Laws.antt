@@ -1,225 +1,20 @@
 -- Laws of UTF8-octets, for the code that goes over them by places in a text.
 -- Assumes nothing.
 use mathlib.Core.Path.{_≡_, refl, sym, _∙_, ap}
-use mathlib.Core.Bool.{Bool, true, false, _&&_, not, and-false, and-assoc, false≢true}
+use mathlib.Core.Bool.{Bool, true, false, _&&_, and-assoc, false≢true}
 use mathlib.Core.List.{List, [], _∷_}
-use Prim.Native.Nat.{ℕ, zero, suc, _+_, _-_, _≤_, _<_}
-use native.Mathlib.Nat.{eq-or-lt-of-le}
+use Prim.Native.Nat.{ℕ, suc, _+_, _-_, _≤_, _<_}
 use native.Mathlib.Numerals.{add-one}
 use native.Mathlib.Omega.{arith}
-use borrow.Author.Tests.{le-leb, lt-leb, leb-true, ltb-true, not-true, not-false}
-use mathlib.Core.Logic.{_⊎_, inl, inr, ⊎-elim}
+use borrow.Author.Tests.{ltb-true}
 use lib.Bits.{bitOr, bitAnd, or-add-and, and-le-l, and-le-r}
-use lib.Dec.{leb, ltb}
+use lib.Dec.{ltb}
 use lib.ListN.{length, drop, getD, length-drop, drop-of-length-le}
-use lib.Seq.{drop-cons, drop-drop, getD-drop}
+use lib.Seq.{drop-cons, drop-drop}
 use Rattle.rules.specs.Refusals.{if_then_else_}
-use Rattle.rules.specs.Text.{Range, range, tail, holds, Form, form, forms, Led, led, notALead, leads, follows, isUtf8}
-use Rattle.text.specs.Sequences.{Tail, lieIn, sequenceLed, sequenceOf, Passes}
-
--- ---- lead bytes: the forms rise, so the bounds of a byte say which one leads
-
--- The first `count` forms end before a byte, and the range of the next one holds it,
-abbrev formHolds : (count byte : ℕ) → List Form → Type 0
-formHolds count byte [] = ⊥
-formHolds zero byte (form (range low high) after ∷ fs) = (low ≤ byte) × (byte ≤ high)
-formHolds (suc count) byte (form (range low high) after ∷ fs) = (high < byte) × formHolds count byte fs
-
-abbrev afterLead : (count : ℕ) → List Form → List Range
-afterLead count [] = []
-afterLead zero (form lead after ∷ fs) = after
-afterLead (suc count) (f ∷ fs) = afterLead count fs
-
-leads-form : (count byte : ℕ) (fs : List Form) → formHolds count byte fs → leads fs byte ≡ led (afterLead count fs)
-leads-form count byte [] h = absurd h
-leads-form zero byte (form (range low high) after ∷ fs) h = simp (le-leb low byte (h .0), le-leb byte high (h .1))
-leads-form (suc count) byte (form (range low high) after ∷ fs) h =
-    simp (lt-leb byte high (h .0), and-false) (leads-form count byte fs (h .1))
-
--- or all the others start after it.
-abbrev noneHolds : (count byte : ℕ) → List Form → Type 0
-noneHolds count byte [] = Unit {0}
-noneHolds zero byte (form (range low high) after ∷ fs) = (byte < low) × noneHolds zero byte fs
-noneHolds (suc count) byte (form (range low high) after ∷ fs) = (high < byte) × noneHolds count byte fs
-
-leads-nothing : (count byte : ℕ) (fs : List Form) → noneHolds count byte fs → leads fs byte ≡ notALead
-leads-nothing count byte [] h = refl
-leads-nothing zero byte (form (range low high) after ∷ fs) h = simp (lt-leb low byte (h .0)) (leads-nothing zero byte fs (h .1))
-leads-nothing (suc count) byte (form (range low high) after ∷ fs) h =
-    simp (lt-leb byte high (h .0), and-false) (leads-nothing count byte fs (h .1))
-
--- ---- the sequence that a lead and the numbers after it make
-
--- All numbers due lie in their ranges,
-abbrev allWithin : (numbers : List ℕ) (due : List Range) → Type 0
-allWithin numbers [] = Unit {0}
-allWithin [] (r ∷ due) = ⊥
-allWithin (n ∷ numbers) (range low high ∷ due) = (low ≤ n) × (n ≤ high) × allWithin numbers due
-
-lies : (numbers : List ℕ) (due : List Range) → allWithin numbers due → lieIn numbers due ≡ true
-lies numbers [] h = refl
-lies [] (r ∷ due) h = absurd h
-lies (n ∷ numbers) (range low high ∷ due) h =
-    simp (le-leb low n (h .0), le-leb n high (h .1)) (lies numbers due (h .2))
-
--- the first lies beside its range,
-abbrev firstBeside : (n : ℕ) (due : List Range) → Type 0
-firstBeside n [] = ⊥
-firstBeside n (range low high ∷ due) = (n < low) ⊎ (high < n)
-
-beside : (n low high : ℕ) → (n < low) ⊎ (high < n) → holds (range low high) n ≡ false
-beside n low high (inl below) = simp (lt-leb low n below)
-beside n low high (inr above) = simp (lt-leb n high above, and-false)
-
-lies-not : (n : ℕ) (numbers : List ℕ) (due : List Range) → firstBeside n due → lieIn (n ∷ numbers) due ≡ false
-lies-not n numbers [] h = absurd h
-lies-not n numbers (range low high ∷ due) h = simp (beside n low high h)
-
--- or the one at a place is no tail, as the range due there asks.
-abbrev tailDue : (place : ℕ) (due : List Range) → Type 0
-tailDue place [] = ⊥
-tailDue zero (range low high ∷ due) = (0x80 ≤ low) × (high ≤ 0xBF)
-tailDue (suc place) (r ∷ due) = tailDue place due
-
-both : (a b : Bool) → a && b ≡ true → (a ≡ true) × (b ≡ true)
-both true b is = (refl, is)
-both false b is = absurd (false≢true is)
-
-within : (n low high : ℕ) → holds (range low high) n ≡ true → (low ≤ n) × (n ≤ high)
-within n low high is =
-    let parts = both (leb low n) (leb n high) is in
-    (leb-true low n (parts .0), leb-true n high (parts .1))
-
-no-tail : (n low high : ℕ) → 0x80 ≤ low → high ≤ 0xBF → holds tail n ≡ false → holds (range low high) n ≡ false
-no-tail n low high p q wrong = go (holds (range low high) n) refl
-  where
-    go : (b : Bool) → holds (range low high) n ≡ b → holds (range low high) n ≡ false
-    go false is = is
-    go true is =
-        let bounds = within n low high is in
-        absurd (false≢true (sym wrong ∙ simp (le-leb 0x80 n (omega arith), le-leb n 0xBF (omega arith))))
-
-lies-no-tail :
-    (place : ℕ) (numbers : List ℕ) (due : List Range) → tailDue place due → holds tail (getD numbers place 0) ≡ false →
-    lieIn numbers due ≡ false
-lies-no-tail place numbers [] h wrong = absurd h
-lies-no-tail place [] (r ∷ due) h wrong = refl
-lies-no-tail zero (n ∷ numbers) (range low high ∷ due) h wrong = simp (no-tail n low high (h .0) (h .1) wrong)
-lies-no-tail (suc place) (n ∷ numbers) (r ∷ due) h wrong = simp (lies-no-tail place numbers due h wrong, and-false)
-
--- The first `count` forms end before a lead, and all others ask for a tail at a place.
-abbrev tailsDue : (place count lead : ℕ) → List Form → Type 0
-tailsDue place count lead [] = Unit {0}
-tailsDue place zero lead (form r due ∷ fs) = tailDue place due × tailsDue place zero lead fs
-tailsDue place (suc count) lead (form (range low high) due ∷ fs) = (high < lead) × tailsDue place count lead fs
-
-led-no-tail :
-    (place count lead : ℕ) (numbers : List ℕ) (fs : List Form) → tailsDue place count lead fs →
-    holds tail (getD numbers place 0) ≡ false → 0 ≡ sequenceLed (leads fs lead) numbers
-led-no-tail place count lead numbers [] h wrong = refl
-led-no-tail place zero lead numbers (form r due ∷ fs) h wrong =
-    go (holds r lead) (led-no-tail place zero lead numbers fs (h .1) wrong)
-  where
-    go : (b : Bool) → 0 ≡ sequenceLed (leads fs lead) numbers → 0 ≡ sequenceLed (if b then led due else leads fs lead) numbers
-    go true later = simp (lies-no-tail place numbers due (h .0) wrong)
-    go false later = later
-led-no-tail place (suc count) lead numbers (form (range low high) due ∷ fs) h wrong =
-    simp (lt-leb lead high (h .0), and-false) (led-no-tail place count lead numbers fs (h .1) wrong)
-
-module _ (count lead : ℕ) (numbers : List ℕ) where
-  pub bad-lead : noneHolds count lead forms → 0 ≡ sequenceOf (lead ∷ numbers)
-  unfolding sequenceOf
-  bad-lead h = ap (λ (l : Led). sequenceLed l numbers) (sym (leads-nothing count lead forms h))
-
-  pub whole :
-      formHolds count lead forms → allWithin numbers (afterLead count forms) →
-      suc (length (afterLead count forms)) ≡ sequenceOf (lead ∷ numbers)
-  unfolding sequenceOf
-  whole h within =
-      sym (ap (λ (l : Led). sequenceLed l numbers) (leads-form count lead forms h) ∙ simp (lies numbers (afterLead count forms) within))
-
-  pub bad-second :
-      (second : ℕ) → formHolds count lead forms → firstBeside second (afterLead count forms) →
-      0 ≡ sequenceOf (lead ∷ second ∷ numbers)
-  unfolding sequenceOf
-  bad-second second h wrong =
-      sym
-      (ap (λ (l : Led). sequenceLed l (second ∷ numbers)) (leads-form count lead forms h)
-      ∙ simp (lies-not second numbers (afterLead count forms) wrong))
-
-  pub bad-tail :
-      (place : ℕ) {right : Bool} → tailsDue place count lead forms → right ≡ holds tail (getD numbers place 0) →
-      not right ≡ true → 0 ≡ sequenceOf (lead ∷ numbers)
-  unfolding sequenceOf
-  bad-tail place {right} h tested wrong =
-      led-no-tail place count lead numbers forms h (sym tested ∙ not-true right wrong)
-
--- What a test of a tail says.
-pub tail-bounds : (n : ℕ) {right : Bool} → right ≡ holds tail n → not right ≡ false → Tail n
-tail-bounds n {right} tested is = within n 0x80 0xBF (sym tested ∙ not-false right is)
-
--- A number is at one end of a range, or between them.
-pub between : {P : Type 0} (low high n : ℕ) → low ≤ n → n ≤ high → (n ≡ low → P) → (n ≡ high → P) → (low < n → n < high → P) → P
-between low high n p q first last inner =
-    ⊎-elim (λ is. first (sym is)) (λ above. ⊎-elim last (inner above) (eq-or-lt-of-le q)) (eq-or-lt-of-le p)
-
--- ---- four numbers are enough: no form asks for more than three after its lead, nor for a 0
-
-abbrev firsts : (count from : ℕ) → List ℕ → List ℕ
-firsts zero from text = []
-firsts (suc count) from text = getD text from 0 ∷ firsts count (suc from) text
-
-firsts-later : (count from n : ℕ) (text : List ℕ) → firsts count (suc from) (n ∷ text) ≡ firsts count from text
-firsts-later zero from n text = refl
-firsts-later (suc count) from n text = ap (λ (l : List ℕ). getD text from 0 ∷ l) (firsts-later count (suc from) n text)
-
-abbrev fewDue : (count : ℕ) (due : List Range) → Type 0
-fewDue count [] = Unit {0}
-fewDue zero (r ∷ due) = ⊥
-fewDue (suc count) (range low high ∷ due) = (0 < low) × fewDue count due
-
-lie-first : (count : ℕ) (text : List ℕ) (due : List Range) → fewDue count due → lieIn (firsts count 0 text) due ≡ lieIn text due
-lie-first count text [] few = refl
-lie-first zero text (r ∷ due) few = absurd few
-lie-first (suc count) [] (range low high ∷ due) few = simp (beside 0 low high (inl (few .0)))
-lie-first (suc count) (n ∷ text) (range low high ∷ due) few =
-    ap (λ (b : Bool). holds (range low high) n && b)
-    (ap (λ (l : List ℕ). lieIn l due) (firsts-later count 0 n text) ∙ lie-first count text due (few .1))
-
-abbrev allFew : List Form → Type 0
-allFew [] = Unit {0}
-allFew (form lead due ∷ fs) = fewDue 3 due × allFew fs
-
-led-first :
-    (lead : ℕ) (text : List ℕ) (fs : List Form) → allFew fs →
-    sequenceLed (leads fs lead) (firsts 3 0 text) ≡ sequenceLed (leads fs lead) text
-led-first lead text [] few = refl
-led-first lead text (form r due ∷ fs) few = go (holds r lead) (led-first lead text fs (few .1))
-  where
-    go : (b : Bool) → sequenceLed (leads fs lead) (firsts 3 0 text) ≡ sequenceLed (leads fs lead) text →
-        sequenceLed (if b then led due else leads fs lead) (firsts 3 0 text)
-        ≡ sequenceLed (if b then led due else leads fs lead) text
-    go true later = ap (λ (b : Bool). if b then suc (length due) else 0) (lie-first 3 text due (few .0))
-    go false later = later
-
-first-four : (lead : ℕ) (text : List ℕ) → sequenceOf (lead ∷ firsts 3 0 text) ≡ sequenceOf (lead ∷ text)
-unfolding sequenceOf
-first-four lead text = led-first lead text forms (omega arith)
-
-pub by-four :
-    (text : List ℕ) (at : ℕ) {lead second third fourth r : ℕ} → at < length text → lead ≡ getD text at 0 →
-    second ≡ getD text (at + 1) 0 → third ≡ getD text (at + 2) 0 → fourth ≡ getD text (at + 3) 0 →
-    r ≡ sequenceOf (lead ∷ second ∷ third ∷ fourth ∷ []) → r ≡ sequenceOf (drop at text)
-by-four text at {lead} {second} {third} {fourth} {r} inside is-lead is-second is-third is-fourth is =
-    let after = drop (suc at) text in
-    let second-there = after-lead 0 1 (omega arith) in
-    let third-there = after-lead 1 2 (omega arith) in
-    let fourth-there = after-lead 2 3 (omega arith) in
-    let same : lead ∷ second ∷ third ∷ fourth ∷ [] ≡ getD text at 0 ∷ firsts 3 0 after = cc in
-    is ∙ ap sequenceOf same ∙ first-four (getD text at 0) after ∙ sym (ap sequenceOf (drop-cons text at 0 inside))
-  where
-    after-lead : (k ahead : ℕ) → suc at + k ≡ at + ahead → getD (drop (suc at) text) k 0 ≡ getD text (at + ahead) 0
-    after-lead k ahead sum = getD-drop (suc at) text k 0 ∙ ap (λ (i : ℕ). getD text i 0) sum
+use Rattle.rules.specs.Text.{Range, holds, forms, Led, led, notALead, leads, follows, isUtf8}
+use Rattle.text.specs.Sequences.{lieIn, sequenceLed, sequenceOf, Passes}
+use Rattle.text.proofs.Forms.{leads-form, both}
 
 -- ---- a text goes on after the sequence at a place, or is none
 
@@ -267,29 +62,26 @@ led-wrong after (led due) is = follows-due after due ∙ go (lieIn after due) is
     go true is = absurd (omega arith)
     go false is = refl
 
-module _
-    {text : List ℕ} {from at count : ℕ} (passed : Passes text from at) (inside : at < length text)
-    (counted : count ≡ sequenceOf (drop at text)) where
-  led-here : count ≡ sequenceLed (leads forms (getD text at 0)) (drop (at + 1) text)
-  unfolding sequenceOf
-  led-here = counted ∙ rw (add-one, drop-cons text at 0)
+sequence-led :
+    (text : List ℕ) (at : ℕ) → at < length text →
+    sequenceOf (drop at text) ≡ sequenceLed (leads forms (getD text at 0)) (drop (at + 1) text)
+unfolding sequenceOf
+sequence-led text at inside = rw (add-one, drop-cons text at 0)
 
-  pub sequence-passed : (count ≡ 0 → ⊥) → Passes text from (at + count)
-  sequence-passed some =
-      let more : suc (count - 1) ≡ count = omega (arith, some) in
-      let led-on = led-passed (drop (at + 1) text) (leads forms (getD text at 0)) (count - 1) (more ∙ led-here) in
-      let sum : at + 1 + (count - 1) ≡ at + count = omega arith in
-      let next = drop-drop (count - 1) (at + 1) text ∙ ap (λ (k : ℕ). drop k text) sum in
-      record {
-        onward = omega arith;
-        within = omega (arith, length-drop (at + 1) text);
-        alike = passed .alike ∙ next-lead text at inside ∙ led-on .1 ∙ ap (λ (l : List ℕ). follows l (led [])) next;
-      }
-
-  pub no-sequence : count ≡ 0 → follows (drop from text) (led []) ≡ false
-  no-sequence none =
-      passed .alike ∙ next-lead text at inside
-      ∙ led-wrong (drop (at + 1) text) (leads forms (getD text at 0)) (sym none ∙ led-here)
+pub sequence-passed :
+    {text : List ℕ} {from at count : ℕ} → Passes text from at → at < length text → count ≡ sequenceOf (drop at text) →
+    (count ≡ 0 → ⊥) → Passes text from (at + count)
+sequence-passed {text} {from} {at} {count} passed inside counted some =
+    let more : suc (count - 1) ≡ count = omega (arith, some) in
+    let here = more ∙ counted ∙ sequence-led text at inside in
+    let led-on = led-passed (drop (at + 1) text) (leads forms (getD text at 0)) (count - 1) here in
+    let sum : at + 1 + (count - 1) ≡ at + count = omega arith in
+    let next = drop-drop (count - 1) (at + 1) text ∙ ap (λ (k : ℕ). drop k text) sum in
+    record {
+      onward = omega arith;
+      within = omega (arith, length-drop (at + 1) text);
+      alike = passed .alike ∙ next-lead text at inside ∙ led-on .1 ∙ ap (λ (l : List ℕ). follows l (led [])) next;
+    }
 
 -- ---- runs of ASCII
 
@@ -345,4 +137,6 @@ pub text-breaks :
     {text : List ℕ} {at count : ℕ} → Passes text 0 at → at < length text → count ≡ sequenceOf (drop at text) → count ≡ 0 →
     false ≡ isUtf8 text
 unfolding isUtf8
-text-breaks passed inside counted none = sym (no-sequence passed inside counted none)
+text-breaks {text} {at} passed inside counted none =
+    let here = sym none ∙ counted ∙ sequence-led text at inside in
+    sym (passed .alike ∙ next-lead text at inside ∙ led-wrong (drop (at + 1) text) (leads forms (getD text at 0)) here)

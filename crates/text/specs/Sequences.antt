@@ -8,7 +8,7 @@ use lib.ListN.{length, drop}
 use Rattle.rules.specs.Refusals.{if_then_else_}
 use Rattle.rules.specs.Text.{Range, holds, forms, Led, led, notALead, leads, follows}
 
--- UTF8-tail
+-- A number is UTF8-tail.
 abbrev pub Tail : (number : ℕ) → Type 0
 Tail number = (0x80 ≤ number) × (number ≤ 0xBF)
 
@@ -18,6 +18,7 @@ lieIn text [] = true
 lieIn [] (r ∷ due) = false
 lieIn (number ∷ text) (r ∷ due) = holds r number && lieIn text due
 
+-- How many bytes a sequence has, by what its lead asks for after it.
 abbrev pub sequenceLed : Led → (after : List ℕ) → ℕ
 sequenceLed (led due) after = if lieIn after due then suc (length due) else 0
 sequenceLed notALead after = 0

@@ -67,8 +67,8 @@ pub fn are_utf8(numbers: &[u64]) -> bool
     true
 }
 
-// How many bytes has the sequence that four numbers start with, 0 where it is none? Past the end of a text the numbers are 0,
-// and no tail is 0.
+// How many bytes has the sequence, UTF8-2 to UTF8-4, that four numbers start with? 0 where they start with none. Past the end
+// of a text they are 0, which is no tail.
 fn sequence(lead: u64, second: u64, third: u64, fourth: u64) -> usize
     requires { ⌜ 0x80 ≤ lead ⌝ }
     ensures { λ r. ⌜ r ≡ sequenceOf (lead ∷ second ∷ third ∷ fourth ∷ []) ⌝ }
@@ -91,7 +91,8 @@ fn sequence(lead: u64, second: u64, third: u64, fourth: u64) -> usize
     longer(lead, second, third, fourth)
 }
 
-// Of three or four bytes. Some leads bound the second byte more narrowly: `pair` holds both.
+// UTF8-3 and UTF8-4, where some leads bound the second byte more narrowly than UTF8-tail: `pair` holds the two. What lies between
+// them is overlong (below E0A0 and F090), a surrogate (from EDA0 on), or above the last character (from F490 on).
 fn longer(lead: u64, second: u64, third: u64, fourth: u64) -> usize
     requires { ⌜ (0xE0 ≤ lead) × (lead ≤ 0xF4) × Tail second × Tail third ⌝ }
     ensures { λ r. ⌜ r ≡ sequenceOf (lead ∷ second ∷ third ∷ fourth ∷ []) ⌝ }
@@ -127,7 +128,7 @@ fn is_tail(number: u64) -> bool
     (0x80 <= number) & (number <= 0xBF)
 }
 
-// How many bytes has the sequence at a place? Only near the end of the text is each byte asked for.
+// The sequence at a place. Only where less than four bytes are left is it asked of each whether it is there.
 fn byte_sequence(text: &[u8], at: usize) -> usize
     requires { ⌜ (at < length (now text)) × (0x80 ≤ getD (now text) at 0) ⌝ }
     ensures { λ r. ⌜ r ≡ sequenceOf (drop at (now (text .entry))) ⌝ }
@@ -143,6 +144,7 @@ fn byte_sequence(text: &[u8], at: usize) -> usize
     )
 }
 
+// The byte so many places on, 0 past the end.
 fn byte_after(text: &[u8], at: usize, ahead: usize) -> u8
     requires { ⌜ at ≤ length (now text) ⌝ }
     ensures { λ r. ⌜ r ≡ getD (now (text .entry)) (at + ahead) 0 ⌝ }
@@ -161,7 +163,7 @@ fn sequence_of_bytes(lead: u8, second: u8, third: u8, fourth: u8) -> usize
     sequence(lead as u64, second as u64, third as u64, fourth as u64)
 }
 
-// As `byte_sequence`, over numbers.
+// The same over numbers.
 fn number_sequence(numbers: &[u64], at: usize) -> usize
     requires { ⌜ (at < length (now numbers)) × (0x80 ≤ getD (now numbers) at 0) ⌝ }
     ensures { λ r. ⌜ r ≡ sequenceOf (drop at (now (numbers .entry))) ⌝ }

@@ -6,7 +6,7 @@ use native.Mathlib.Omega.{arith}
 use borrow.Author.Needs.{needs}
 use lib.ListN.{length}
 use Rattle.text.specs.Sequences.{Passes}
-use Rattle.text.proofs.Laws.{nothing-passed, byte-passed, both-passed, sequence-passed, text-ends, text-breaks}
+use Rattle.text.proofs.Laws.{byte-passed, both-passed, sequence-passed, text-ends, text-breaks}
 use Rattle.text.proofs.are_utf8.Statement.{statement}
 use Rattle.text.proofs.are_utf8.Tie as tie
 

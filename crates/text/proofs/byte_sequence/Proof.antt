@@ -1,20 +1,15 @@
 -- `text::byte_sequence` meets its contract: the four bytes are those of the text, 0 past its end.
 -- Assumes nothing.
 use borrow.Author.Needs.{needs}
-use Rattle.text.proofs.Laws.{by-four}
+use Rattle.text.proofs.Forms.{by-four}
 use Rattle.text.proofs.byte_sequence.Statement.{statement}
 use Rattle.text.proofs.byte_sequence.Tie as tie
-
-returns : tie.Need-returns
-returns c = search (needs, by-four)
-
-returns-2 : tie.Need-returns-2
-returns-2 c = search (needs, by-four)
 
 pub byte-sequence-spec : {M : Type 1} → statement M
 byte-sequence-spec =
     tie.close
     (tie.spec
-    (λ c. search needs) (λ c. search needs) (λ c. search needs) (λ c. search needs) (λ c. search needs) (λ c. search needs)
-    (λ c. search needs) (λ c. search needs) (λ c κs. search needs) returns (λ c. search needs) (λ c κs. search needs)
-    (λ c κs. search needs) (λ c κs. search needs) (λ c κs. search needs) returns-2)
+    (λ c. search needs) (λ c. search needs) (λ c. search needs) (λ c. search needs) (λ c. search needs)
+    (λ c. search needs) (λ c. search needs) (λ c. search needs) (λ c κs. search needs) (λ c. search (needs, by-four))
+    (λ c. search needs) (λ c κs. search needs) (λ c κs. search needs) (λ c κs. search needs) (λ c κs. search needs)
+    (λ c. search (needs, by-four)))

@@ -5,6 +5,7 @@ use mathlib.Core.Path.{_≡_}
 use mathlib.Core.Bool.{true}
 use Prim.Native.Nat.{_+_, _-_, _≤_}
 use native.Mathlib.Omega.{arith}
+use borrow.Author.Needs.{needs}
 use Rattle.text.specs.Sequences.{Passes}
 use Rattle.text.proofs.Laws.{nothing-passed, ascii-joined}
 use Rattle.text.proofs.eight_ascii.Statement.{statement}
@@ -16,20 +17,8 @@ Inv-loop text at ascii₀ next₀ end ascii next = (next ≤ end) × (ascii ≡ 
 abbrev μ-loop : tie.MeasureT-loop
 μ-loop text at ascii₀ next₀ end ascii next = end - next
 
-add-end : tie.Need-add-end Inv-loop μ-loop
-add-end c = omega arith
-
 loop-holds : tie.Need-loop-holds Inv-loop μ-loop
 loop-holds c = (omega arith, λ ascii. nothing-passed _ _ (omega arith))
-
-shared-slice-read-ascii : tie.Need-shared-slice-read-ascii Inv-loop μ-loop
-shared-slice-read-ascii c = omega arith
-
-add-next : tie.Need-add-next Inv-loop μ-loop
-add-next c = omega arith
-
-loop-less : tie.Need-loop-less Inv-loop μ-loop
-loop-less c = omega arith
 
 loop-again : tie.Need-loop-again Inv-loop μ-loop
 loop-again c = (omega arith, ascii-joined _ (c .before .before .loop .inv .1) (omega arith))
@@ -43,12 +32,5 @@ pub eight-ascii-spec : {M : Type 1} → statement M
 eight-ascii-spec =
     tie.close
     (tie.spec
-    Inv-loop
-    μ-loop
-    add-end
-    loop-holds
-    shared-slice-read-ascii
-    add-next
-    loop-less
-    loop-again
-    returns)
+    Inv-loop μ-loop (λ c. search needs) loop-holds (λ c. search needs) (λ c. search needs) (λ c. search needs)
+    loop-again returns)

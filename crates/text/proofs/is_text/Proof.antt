@@ -16,9 +16,6 @@ Inv-loop text at₀ at = Passes text 0 at
 abbrev μ-loop : tie.MeasureT-loop
 μ-loop text at₀ at = length text - at
 
-loop-holds : tie.Need-loop-holds Inv-loop μ-loop
-loop-holds c = nothing-passed _ _ (omega arith)
-
 add-at : tie.Need-add-at Inv-loop μ-loop
 add-at c =
     let passed = sequence-passed (c .before .before .before .before .before .loop .inv) (omega arith) (c .before .byte-sequence .ensures) (c .if2 .left) in
@@ -28,6 +25,7 @@ pub is-text-spec : {M : Type 1} → statement M
 is-text-spec =
     tie.close
     (tie.spec
-    Inv-loop μ-loop loop-holds (λ c. search needs) (λ c. search needs) (λ c κs. search needs) (λ c. search needs)
-    (λ c. search (needs, both-passed, byte-passed)) (λ c κs. search needs) (λ c. search (needs, text-breaks)) add-at
-    (λ c. search needs) (λ c. search (needs, sequence-passed)) (λ c. search (needs, text-ends)))
+    Inv-loop μ-loop (λ c. search (needs, nothing-passed)) (λ c. search needs) (λ c. search needs) (λ c κs. search needs)
+    (λ c. search needs) (λ c. search (needs, both-passed, byte-passed)) (λ c κs. search needs)
+    (λ c. search (needs, text-breaks)) add-at (λ c. search needs) (λ c. search (needs, sequence-passed))
+    (λ c. search (needs, text-ends)))

@@ -6,14 +6,9 @@ use Rattle.rules.specs.Text.{isUtf8}
 use Rattle.text.proofs.is_utf8.Statement.{statement}
 use Rattle.text.proofs.is_utf8.Tie as tie
 
-part-of-requires : tie.Need-part-of-requires
-part-of-requires c κs = search needs
-
-is-text-requires : tie.Need-is-text-requires
-is-text-requires c κs = search needs
-
 returns : tie.Need-returns
 returns c = c .is-text .ensures ∙ ap isUtf8 (c .before .part-of .ensures)
 
 pub is-utf8-spec : {M : Type 1} → statement M
-is-utf8-spec = tie.close (tie.spec part-of-requires is-text-requires returns)
+is-utf8-spec = tie.close (tie.spec
+    (λ c κs. search needs) (λ c κs. search needs) returns)

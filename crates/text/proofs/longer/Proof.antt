@@ -3,7 +3,7 @@
 use mathlib.Core.Logic.{inl, inr}
 use native.Mathlib.Omega.{arith}
 use borrow.Author.Needs.{needs}
-use Rattle.text.proofs.Laws.{bad-second, bad-tail, between, tail-bounds, whole}
+use Rattle.text.proofs.Forms.{bad-second, bad-tail, between, tail-bounds, whole}
 use Rattle.text.proofs.longer.Statement.{statement}
 use Rattle.text.proofs.longer.Tie as tie
 

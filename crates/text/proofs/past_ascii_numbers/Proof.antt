@@ -2,7 +2,6 @@
 -- measure is what is left of the text.
 -- Assumes nothing.
 use Prim.Native.Nat.{_-_}
-use native.Mathlib.Omega.{arith}
 use borrow.Author.Needs.{needs}
 use lib.ListN.{length}
 use Rattle.text.specs.Sequences.{Passes}
@@ -16,16 +15,10 @@ Inv-loop numbers from at₀ at = Passes numbers from at
 abbrev μ-loop : tie.MeasureT-loop
 μ-loop numbers from at₀ at = length numbers - at
 
-loop-holds : tie.Need-loop-holds Inv-loop μ-loop
-loop-holds c = nothing-passed _ _ (omega arith)
-
-loop-again : tie.Need-loop-again Inv-loop μ-loop
-loop-again c =
-    both-passed (byte-passed (c .before .before .before .before .loop .inv) (omega arith) (c .before .if1 .left)) (c .sixteens-from .ensures)
-
 pub past-ascii-numbers-spec : {M : Type 1} → statement M
 past-ascii-numbers-spec =
     tie.close
     (tie.spec
-    Inv-loop μ-loop loop-holds (λ c. search needs) (λ c. search needs) (λ c. search needs) (λ c. search needs)
-    (λ c κs. search needs) (λ c. search needs) loop-again (λ c. search needs))
+    Inv-loop μ-loop (λ c. search (needs, nothing-passed)) (λ c. search needs) (λ c. search needs) (λ c. search needs)
+    (λ c. search needs) (λ c κs. search needs) (λ c. search needs) (λ c. search (needs, both-passed, byte-passed))
+    (λ c. search needs))

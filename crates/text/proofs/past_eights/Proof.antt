@@ -2,7 +2,6 @@
 -- measure is what is left of the text.
 -- Assumes nothing.
 use Prim.Native.Nat.{_-_}
-use native.Mathlib.Omega.{arith}
 use borrow.Author.Needs.{needs}
 use borrow.Author.Tests.{not-false}
 use lib.ListN.{length}
@@ -17,9 +16,6 @@ Inv-loop text from at₀ at = Passes text from at
 abbrev μ-loop : tie.MeasureT-loop
 μ-loop text from at₀ at = length text - at
 
-loop-holds : tie.Need-loop-holds Inv-loop μ-loop
-loop-holds c = nothing-passed _ _ (omega arith)
-
 loop-again : tie.Need-loop-again Inv-loop μ-loop
 loop-again c =
     both-passed (c .before .before .before .before .loop .inv)
@@ -29,5 +25,5 @@ pub past-eights-spec : {M : Type 1} → statement M
 past-eights-spec =
     tie.close
     (tie.spec
-    Inv-loop μ-loop loop-holds (λ c. search needs) (λ c κs. search needs) (λ c. search needs) (λ c. search needs) (λ c κs. search needs)
-    (λ c. search needs) loop-again (λ c. search needs))
+    Inv-loop μ-loop (λ c. search (needs, nothing-passed)) (λ c. search needs) (λ c κs. search needs) (λ c. search needs)
+    (λ c. search needs) (λ c κs. search needs) (λ c. search needs) loop-again (λ c. search needs))

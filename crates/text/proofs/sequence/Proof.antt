@@ -2,7 +2,7 @@
 -- Assumes nothing.
 use native.Mathlib.Omega.{arith}
 use borrow.Author.Needs.{needs}
-use Rattle.text.proofs.Laws.{bad-lead, bad-tail, tail-bounds, whole}
+use Rattle.text.proofs.Forms.{bad-lead, bad-tail, tail-bounds, whole}
 use Rattle.text.proofs.sequence.Statement.{statement}
 use Rattle.text.proofs.sequence.Tie as tie
 

@@ -5,8 +5,6 @@ use Rattle.text.proofs.Laws.{nothing-passed}
 use Rattle.text.proofs.sixteens_from.Statement.{statement}
 use Rattle.text.proofs.sixteens_from.Tie as tie
 
-returns : tie.Need-returns
-returns c = search (needs, nothing-passed)
-
 pub sixteens-from-spec : {M : Type 1} → statement M
-sixteens-from-spec = tie.close (tie.spec returns (λ c κs. search needs) (λ c. search needs))
+sixteens-from-spec = tie.close (tie.spec
+    (λ c. search (needs, nothing-passed)) (λ c κs. search needs) (λ c. search needs))
