@@ -10,9 +10,7 @@ use borrow.Author.Tests.{lt-ltb}
 use lib.Dec.{eqb, ltb}
 use lib.ListN.{length, drop, getD, length-drop, drop-of-length-le}
 use lib.Seq.{sets, drop-cons}
-use Rattle.rules.specs.declared.Fault.{Fault}
-use Rattle.rules.specs.declared.Place.the-variants.{Index}
-use Rattle.rules.specs.Refusals.{fault, notAValue}
+use Rattle.rules.specs.Refusals.{notAValue}
 use Rattle.rules.specs.Bytes.{zeros, bytesOf}
 use Rattle.rules.specs.TypeTable.{typeTable, contentOf}
 use Rattle.rules.specs.Encode as E
@@ -22,9 +20,10 @@ use Rattle.rules.specs.Writer as R
 use Rattle.nesting.specs.declared.Ordinal.{Ordinal}
 use Rattle.nesting.specs.Ordinals.{ordinalIs}
 use Rattle.writer.specs.declared.cursor.Cursor.{Cursor}
+use Rattle.writer.specs.declared.cursor.Stop.{Stop}
 use Rattle.writer.specs.declared.cursor.Wrote.{Wrote}
 use Rattle.writer.specs.declared.cursor.Wrote.the-variants.{On, Refused}
-use Rattle.writer.specs.Putting.{Put, Puts, tookOne, Ask}
+use Rattle.writer.specs.Putting.{stop, Put, Puts, tookOne, Ask}
 use Rattle.writer.specs.Walking.{writeEnvelope, EnvelopesPut, ContentPut}
 use Rattle.writer.proofs.InLine.{put-in-line, put-cannot}
 use Rattle.writer.proofs.UnknownContent.{put-later}
@@ -105,17 +104,17 @@ module _ (rows members values : List ℕ) (base depth row count : ℕ) (out : Li
       abbrev contentAt : Encoder
       contentAt = writeContentOfEightBytes (typeTable rows members) (R.levels (typeTable rows members) depth) (contentOf (typeTable rows members) (getD rows (row * 4 + 1) 0) (getD rows (row * 4 + 2) 0) (i + 1))
 
-      pub one-ended : {w : Wrote} → length values ≤ d .index → w ≡ Refused (fault notAValue (Index (d .index))) → EnvelopesPut rows members values out out′ base depth c row count w
+      pub one-ended : {w : Wrote} → length values ≤ d .index → w ≡ Refused (stop notAValue (d .index)) → EnvelopesPut rows members values out out′ base depth c row count w
       one-ended k y =
           let a = envelope-asks in
-          rw y (run-refused r (omega arith) (rw (envelope-short (eqb (i + 1) count) contentAt values (d .index) (d .next) (d .handles) k) (put-cannot notAValue 0 (d .index) (omega (arith, a .left)))))
+          rw y (run-refused r (omega arith) (rw (envelope-short (eqb (i + 1) count) contentAt values (d .index) (d .next) (d .handles) k) (put-cannot notAValue 0 (d .index) (omega (arith, a .left)) (omega arith))))
 
       module _ {v : ℕ} (k : d .index < length values) (read : v ≡ getD values (d .index) 0) where
-        pub one-wrong : {w : Wrote} → ltb 1 v || (eqb v 0 && eqb (i + 1) count) ≡ true → w ≡ Refused (fault notAValue (Index (d .index)))
+        pub one-wrong : {w : Wrote} → ltb 1 v || (eqb v 0 && eqb (i + 1) count) ≡ true → w ≡ Refused (stop notAValue (d .index))
             → EnvelopesPut rows members values out out′ base depth c row count w
         one-wrong t y =
             rw y (run-refused r (omega arith) (rw (envelope-wrong (eqb (i + 1) count) contentAt values (d .index) (d .next) (d .handles) k read t)
-            (put-cannot notAValue (suc (length (drop (d .index + 1) values))) (d .index) (omega (arith, length-drop (d .index + 1) values)))))
+            (put-cannot notAValue (suc (length (drop (d .index + 1) values))) (d .index) (omega (arith, length-drop (d .index + 1) values)) (omega arith))))
 
         module _ (t : ltb 1 v || (eqb v 0 && eqb (i + 1) count) ≡ false) {e : Cursor} (took : e ≡ tookOne d) where
           pub one-absent : {out″ : List ℕ} → v ≡ 0 → out″ ≡ sets out′ (i * 8) (bytesOf 8 0) → EnvelopesLeft rows members values base depth row count out out″ c e (i + 1)
@@ -138,5 +137,5 @@ module _ (rows members values : List ℕ) (base depth row count : ℕ) (out : Li
             pub one-present : {f : Cursor} → w ≡ On f → EnvelopesLeft rows members values base depth row count out out″ c f (i + 1)
             one-present y = turn (rw y at present)
 
-            pub one-refused : {f : Fault} → w ≡ Refused f → EnvelopesPut rows members values out out″ base depth c row count (Refused f)
+            pub one-refused : {f : Stop} → w ≡ Refused f → EnvelopesPut rows members values out out″ base depth c row count (Refused f)
             one-refused y = run-refused r (omega arith) (rw y at present)

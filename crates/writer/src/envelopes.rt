@@ -8,21 +8,21 @@ ghost use Rattle.nesting.specs.Ordinals.{ordinalIs, Rising};
 ghost use Rattle.writer.specs.Putting.{Stands, Ask, Puts, PutsInLine};
 ghost use Rattle.writer.specs.Contracts.{UnionOpens, MemberIs, UnknownPuts, sealedOut};
 use crate::cursor::Cursor;
+use crate::cursor::Stop;
 use crate::cursor::Wrote;
-use crate::cursor::fault_at;
 use crate::cursor::put_zeros;
 use crate::cursor::refused;
+use crate::cursor::stop_at;
 use crate::cursor::took;
 use crate::cursor::with_handles;
 use crate::scalars::numbers;
 use nesting::Ordinal;
-use rules::Fault;
 
 // What a union's number says: no member, one whose envelope follows, or a refusal.
 pub enum Member {
     None(Cursor),
     Some(Ordinal, Cursor),
-    Bad(Fault),
+    Bad(Stop),
 }
 
 fn is_known(what: Ordinal) -> bool
@@ -50,12 +50,12 @@ pub fn union_member(
     ensures { λ r. ⌜ UnionOpens (now (members .entry)) (now (values .entry)) (now (out .entry)) (now (out .exit)) at c first count form r × MemberIs (now (members .entry)) (now (values .entry)) c first count r ⌝ }
 {
     if values.len() <= c.index {
-        return Member::Bad(fault_at(26, c.index));
+        return Member::Bad(stop_at(26, c.index));
     }
     let v = words::value_at(values, c.index);
     if v == 0 {
         if form % 2 == 0 {
-            return Member::Bad(fault_at(26, c.index));
+            return Member::Bad(stop_at(26, c.index));
         }
         words::store64(out, at, 0);
         words::store64(out, at + 8, 0);
@@ -64,7 +64,7 @@ pub fn union_member(
     let what = nesting::ordinal_of(members, first, count, v);
     let accepted = (2 <= form) | is_known(what);
     if !accepted {
-        return Member::Bad(fault_at(26, c.index));
+        return Member::Bad(stop_at(26, c.index));
     }
     words::store64(out, at, v);
     Member::Some(what, took(c))

@@ -11,6 +11,7 @@ use crate::Written;
 use crate::cursor::Cursor;
 use crate::cursor::Wrote;
 use crate::cursor::fault_at;
+use crate::cursor::fault_of;
 use crate::cursor::put_zeros;
 use crate::walk::value;
 use layout::Soundness;
@@ -84,7 +85,7 @@ pub fn pass(
     ensures { λ r. ⌜ Passed (now (rows .entry)) (now (members .entry)) (now (values .entry)) root (now (out .entry)) (now (out .exit)) r ⌝ }
 {
     match primary(rows, members, sizes, alignments, root as usize, values, out) {
-        Wrote::Refused(f) => Written::Refused(f),
+        Wrote::Refused(s) => Written::Refused(fault_of(s)),
         Wrote::On(end) => after(end, values.len()),
     }
 }
