@@ -29,6 +29,7 @@ pub mod ByPlan
 pub mod Bools
 pub mod Plans
 pub mod Turns
+pub mod OneMember
 pub mod Roots
 pub mod Passes
 pub mod Judging

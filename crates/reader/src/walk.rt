@@ -225,6 +225,42 @@ fn composite(
             return planned(bytes, values, plan, size, 1, at, c);
         }
     }
+    // a struct of one member that has no parts itself: the member, and the fill after it
+    if (words::number_at(rows, row * 4) == 7)
+        & (words::number_at(rows, row * 4 + 2) == 1)
+        & !nesting::has_parts(rows, part)
+    {
+        match value(
+            rows,
+            members,
+            sizes,
+            alignments,
+            bytes,
+            held,
+            values,
+            objects,
+            depth,
+            part,
+            at,
+            c.next,
+            c.handles,
+            c.values,
+            c.objects,
+        ) {
+            Walked::On(d) => {
+                let stop = at + words::number_at(sizes, part) as usize;
+                return fill_at(
+                    bytes,
+                    stop,
+                    at + words::number_at(sizes, row) as usize - stop,
+                    d,
+                );
+            }
+            Walked::Refused(f) => {
+                return Walked::Refused(f);
+            }
+        }
+    }
     let mut kept = [Level {
         row: 0,
         done: 0,

@@ -39,6 +39,7 @@ use Rattle.reader.proofs.TableEnvelopes.{EnvelopesLeft, envelopes-start
 use Rattle.reader.proofs.Values.{value-bool, value-number, value-handle, value-string}
 use Rattle.reader.proofs.NoParts.{value-empty, array-ask, array-done, number-ask, string-ask}
 use Rattle.reader.proofs.Turns.{Walking, walking-start, state-known, turn-fill, turn-filled, turn-fill-refused, turn-into, turn-call, turn-called, turn-call-refused, turn-out, turn-done}
+use Rattle.reader.proofs.OneMember.{one-member, member-asks, fill-asks, member-refused, member-filled}
 use Rattle.reader.proofs.walk.composite.Reads as composite
 use Rattle.reader.proofs.walk.composite.Kinds as composite-kinds
 use Rattle.reader.proofs.walk.+composite+content+elements+envelopes+out_of_line+value.Lts-composite as composite-lts
@@ -138,7 +139,7 @@ value-below t = and 7 value-kinds.ps (falls 7 value-kinds.ps _<_ μ-value t) val
 -- ---- composite: structs and arrays
 
 abbrev composite-calls : ℕ → composite-lts.Claims
-composite-calls t = (number-at-reads.Asked, number-at-reads.Learnt, plan-of-reads.Asked, plan-of-reads.Learnt, planned-reads.Asked, planned-reads.Learnt, next-step-reads.Asked, next-step-reads.Learnt, fill-at-reads.Asked, fill-at-reads.Learnt, value-below t, value.Post)
+composite-calls t = (number-at-reads.Asked, number-at-reads.Learnt, plan-of-reads.Asked, plan-of-reads.Learnt, planned-reads.Asked, planned-reads.Learnt, has-parts-reads.Asked, has-parts-reads.Learnt, value-below t, value.Post, fill-at-reads.Asked, fill-at-reads.Learnt, next-step-reads.Asked, next-step-reads.Learnt)
 
 abbrev composite-Inv-loop : composite-lts.InvT-loop
 composite-Inv-loop rows members sizes alignments bytes held values₀ objects₀ depth row at first part kept₀ around₀ level₀ due₀ place₀ d₀ values objects kept around level due place d =
@@ -179,16 +180,103 @@ composite-returns t c =
     let start = at-plan-of .before .before .before .before .before .before .before .before .before .before in
     alone-done (start .pre .1 .0) (at-plan-of .plan-of .ensures) (at-if2 .if2 .taken) (at-number-at .number-at4 .ensures) _ _ _ _ _ _ _ _ (start .pre .1 .2) (at-planned .planned .ensures)
 
-composite-loop-holds : (t : ℕ) → composite-lts.Need-loop-holds (composite-calls t) (composite-at t) composite.Post composite-Inv-loop composite-μ-loop
-composite-loop-holds t c = (c .before .before .before .before .before .before .before .before .before .pre .1 .0, walking-start (c .before .before .before .before .before .before .before .before .before .pre .1 .0) _ _ refl (c .before .before .before .before .before .before .before .before .before .pre .1 .1) (c .before .before .before .before .before .before .before .before .before .pre .1 .2))
+composite-mul-number-at-4 : (t : ℕ) → composite-lts.Need-mul-number-at-4 (composite-calls t) (composite-at t) composite.Post composite-Inv-loop composite-μ-loop
+composite-mul-number-at-4 t c = search needs
+
+composite-mul-number-at-5 : (t : ℕ) → composite-lts.Need-mul-number-at-5 (composite-calls t) (composite-at t) composite.Post composite-Inv-loop composite-μ-loop
+composite-mul-number-at-5 t c = search needs
+
+composite-add-number-at-3 : (t : ℕ) → composite-lts.Need-add-number-at-3 (composite-calls t) (composite-at t) composite.Post composite-Inv-loop composite-μ-loop
+composite-add-number-at-3 t c = search needs
+
+composite-has-parts-requires : (t : ℕ) → composite-lts.Need-has-parts-requires (composite-calls t) (composite-at t) composite.Post composite-Inv-loop composite-μ-loop
+composite-has-parts-requires t c κs = search needs
+
+composite-value-requires : (t : ℕ) → composite-lts.Need-value-requires (composite-calls t) (composite-at t) composite.Post composite-Inv-loop composite-μ-loop
+composite-value-requires t c κs =
+    let at-if3 = c .before .before in
+    let at-number-at = at-if3 .before .before .before .before .before .before in
+    let start = at-number-at .before .before .before .before .before .before .before in
+    let one = one-member (start .pre .1 .0) _ (at-if3 .before .before .before .number-at5 .ensures) (at-if3 .before .before .number-at6 .ensures) (at-if3 .if3 .taken) in
+    let k = member-asks (start .pre .1 .0) (start .pre .1 .1) one (at-number-at .before .number-at .ensures) (at-number-at .number-at2 .ensures) (start .pre .1 .2) in
+    (omega (arith, start .pre .0, k .2), (k .0, k .1))
+
+composite-enum-known-d : (t : ℕ) → composite-lts.Need-enum-known-d (composite-calls t) (composite-at t) composite.Post composite-Inv-loop composite-μ-loop
+composite-enum-known-d t c = search needs
+
+composite-number-at-requires-7 : (t : ℕ) → composite-lts.Need-number-at-requires-7 (composite-calls t) (composite-at t) composite.Post composite-Inv-loop composite-μ-loop
+composite-number-at-requires-7 t c κs = search needs
+
+composite-add-stop : (t : ℕ) → composite-lts.Need-add-stop (composite-calls t) (composite-at t) composite.Post composite-Inv-loop composite-μ-loop
+composite-add-stop t c =
+    let start = c .before .before .before .before .before .before .before .before .before .before .before .before .before .before .before .before .before .before .before .before .before .before .before .before .before in
+    omega (arith, start .pre .1 .2 .inside, start .pre .1 .2 .short)
+
+composite-number-at-requires-8 : (t : ℕ) → composite-lts.Need-number-at-requires-8 (composite-calls t) (composite-at t) composite.Post composite-Inv-loop composite-μ-loop
+composite-number-at-requires-8 t c κs = search needs
+
+composite-add-fill-at : (t : ℕ) → composite-lts.Need-add-fill-at (composite-calls t) (composite-at t) composite.Post composite-Inv-loop composite-μ-loop
+composite-add-fill-at t c =
+    let start = c .before .before .before .before .before .before .before .before .before .before .before .before .before .before .before .before .before .before .before .before .before .before .before .before .before .before .before in
+    omega (arith, start .pre .1 .2 .inside, start .pre .1 .2 .short)
 
 composite-sub-fill-at : (t : ℕ) → composite-lts.Need-sub-fill-at (composite-calls t) (composite-at t) composite.Post composite-Inv-loop composite-μ-loop
 composite-sub-fill-at t c =
-    let loop = c .before .before .before .before .loop in
-    turn-fill (loop .inv .0) (loop .inv .1) (c .before .before .before .next-step .ensures) (c .before .next .given .1) .0
+    let at-if3 = c .before .before .before .before .before .before .before .before .before .before .before .before .before .before in
+    let at-number-at = at-if3 .before .before .before .before .before .before in
+    let start = at-number-at .before .before .before .before .before .before .before in
+    let one = one-member (start .pre .1 .0) _ (at-if3 .before .before .before .number-at5 .ensures) (at-if3 .before .before .number-at6 .ensures) (at-if3 .if3 .taken) in
+    fill-asks (start .pre .1 .0) (start .pre .1 .1) one (at-number-at .before .number-at .ensures) (at-number-at .number-at2 .ensures) (start .pre .1 .2) (c .before .before .number-at7 .ensures) (c .number-at8 .ensures) .0
 
 composite-fill-at-requires : (t : ℕ) → composite-lts.Need-fill-at-requires (composite-calls t) (composite-at t) composite.Post composite-Inv-loop composite-μ-loop
 composite-fill-at-requires t c κs =
+    let at-if3 = c .before .before .before .before .before .before .before .before .before .before .before .before .before .before in
+    let at-number-at = at-if3 .before .before .before .before .before .before in
+    let start = at-number-at .before .before .before .before .before .before .before in
+    let one = one-member (start .pre .1 .0) _ (at-if3 .before .before .before .number-at5 .ensures) (at-if3 .before .before .number-at6 .ensures) (at-if3 .if3 .taken) in
+    omega (arith, fill-asks (start .pre .1 .0) (start .pre .1 .1) one (at-number-at .before .number-at .ensures) (at-number-at .number-at2 .ensures) (start .pre .1 .2) (c .before .before .number-at7 .ensures) (c .number-at8 .ensures))
+
+composite-same-length-2 : (t : ℕ) → composite-lts.Need-same-length-2 (composite-calls t) (composite-at t) composite.Post composite-Inv-loop composite-μ-loop
+composite-same-length-2 t c = search needs
+
+composite-same-length-3 : (t : ℕ) → composite-lts.Need-same-length-3 (composite-calls t) (composite-at t) composite.Post composite-Inv-loop composite-μ-loop
+composite-same-length-3 t c = search needs
+
+composite-returns-2 : (t : ℕ) → composite-lts.Need-returns-2 (composite-calls t) (composite-at t) composite.Post composite-Inv-loop composite-μ-loop
+composite-returns-2 t c =
+    let at-if3 = c .before .before .before .before .before .before .before .before .before .before .before .before .before .before .before in
+    let at-number-at = at-if3 .before .before .before .before .before .before in
+    let start = at-number-at .before .before .before .before .before .before .before in
+    let one = one-member (start .pre .1 .0) _ (at-if3 .before .before .before .number-at5 .ensures) (at-if3 .before .before .number-at6 .ensures) (at-if3 .if3 .taken) in
+    member-filled (start .pre .1 .0) (start .pre .1 .1) one (at-number-at .before .number-at .ensures) (at-number-at .number-at2 .ensures) _ _ _ _ _ _ _ _ (start .pre .1 .2) (c .before .before .before .before .before .before .before .before .before .before .before .before .value .ensures) (c .before .before .before .before .before .before .d .given .1) (c .before .before .before .number-at7 .ensures) (c .before .number-at8 .ensures) _ (c .fill-at .ensures)
+
+composite-enum-known-f : (t : ℕ) → composite-lts.Need-enum-known-f (composite-calls t) (composite-at t) composite.Post composite-Inv-loop composite-μ-loop
+composite-enum-known-f t c = search needs
+
+composite-same-length-4 : (t : ℕ) → composite-lts.Need-same-length-4 (composite-calls t) (composite-at t) composite.Post composite-Inv-loop composite-μ-loop
+composite-same-length-4 t c = search needs
+
+composite-same-length-5 : (t : ℕ) → composite-lts.Need-same-length-5 (composite-calls t) (composite-at t) composite.Post composite-Inv-loop composite-μ-loop
+composite-same-length-5 t c = search needs
+
+composite-returns-3 : (t : ℕ) → composite-lts.Need-returns-3 (composite-calls t) (composite-at t) composite.Post composite-Inv-loop composite-μ-loop
+composite-returns-3 t c =
+    let at-if3 = c .before .before .before .before .before .before .before .before .before .before in
+    let at-number-at = at-if3 .before .before .before .before .before .before in
+    let start = at-number-at .before .before .before .before .before .before .before in
+    let one = one-member (start .pre .1 .0) _ (at-if3 .before .before .before .number-at5 .ensures) (at-if3 .before .before .number-at6 .ensures) (at-if3 .if3 .taken) in
+    member-refused (start .pre .1 .0) (start .pre .1 .1) one (at-number-at .before .number-at .ensures) (at-number-at .number-at2 .ensures) _ _ _ _ _ _ _ _ (start .pre .1 .2) (c .before .before .before .before .before .before .before .value .ensures) (c .before .f .given .1)
+
+composite-loop-holds : (t : ℕ) → composite-lts.Need-loop-holds (composite-calls t) (composite-at t) composite.Post composite-Inv-loop composite-μ-loop
+composite-loop-holds t c = (c .before .before .before .before .before .before .before .before .before .before .before .before .before .pre .1 .0, walking-start (c .before .before .before .before .before .before .before .before .before .before .before .before .before .pre .1 .0) _ _ refl (c .before .before .before .before .before .before .before .before .before .before .before .before .before .pre .1 .1) (c .before .before .before .before .before .before .before .before .before .before .before .before .before .pre .1 .2))
+
+composite-sub-fill-at-2 : (t : ℕ) → composite-lts.Need-sub-fill-at-2 (composite-calls t) (composite-at t) composite.Post composite-Inv-loop composite-μ-loop
+composite-sub-fill-at-2 t c =
+    let loop = c .before .before .before .before .loop in
+    turn-fill (loop .inv .0) (loop .inv .1) (c .before .before .before .next-step .ensures) (c .before .next .given .1) .0
+
+composite-fill-at-requires-2 : (t : ℕ) → composite-lts.Need-fill-at-requires-2 (composite-calls t) (composite-at t) composite.Post composite-Inv-loop composite-μ-loop
+composite-fill-at-requires-2 t c κs =
     let loop = c .before .before .before .before .loop in
     omega (arith, turn-fill (loop .inv .0) (loop .inv .1) (c .before .before .before .next-step .ensures) (c .before .next .given .1))
 
@@ -200,23 +288,23 @@ composite-add-level t c =
 composite-loop-less : (t : ℕ) → composite-lts.Need-loop-less (composite-calls t) (composite-at t) composite.Post composite-Inv-loop composite-μ-loop
 composite-loop-less t c =
     let loop = c .before .before .before .before .before .before .before .before .before .loop in
-    turn-filled (loop .inv .0) (loop .inv .1) (c .before .before .before .before .before .before .before .before .next-step .ensures) (c .before .before .before .before .before .before .next .given .1) (c .before .before .before .before .fill-at .ensures) (c .before .before .e .given .1) .1
+    turn-filled (loop .inv .0) (loop .inv .1) (c .before .before .before .before .before .before .before .before .next-step .ensures) (c .before .before .before .before .before .before .next .given .1) (c .before .before .before .before .fill-at2 .ensures) (c .before .before .e .given .1) .1
 
 composite-loop-again : (t : ℕ) → composite-lts.Need-loop-again (composite-calls t) (composite-at t) composite.Post composite-Inv-loop composite-μ-loop
 composite-loop-again t c =
     let loop = c .before .before .before .before .before .before .before .before .before .loop in
-    (loop .inv .0, turn-filled (loop .inv .0) (loop .inv .1) (c .before .before .before .before .before .before .before .before .next-step .ensures) (c .before .before .before .before .before .before .next .given .1) (c .before .before .before .before .fill-at .ensures) (c .before .before .e .given .1) .0)
+    (loop .inv .0, turn-filled (loop .inv .0) (loop .inv .1) (c .before .before .before .before .before .before .before .before .next-step .ensures) (c .before .before .before .before .before .before .next .given .1) (c .before .before .before .before .fill-at2 .ensures) (c .before .before .e .given .1) .0)
 
-composite-same-length-2 : (t : ℕ) → composite-lts.Need-same-length-2 (composite-calls t) (composite-at t) composite.Post composite-Inv-loop composite-μ-loop
-composite-same-length-2 t c = c .before .before .before .before .before .before .before .before .loop .inv .1 .lengths .0
+composite-same-length-6 : (t : ℕ) → composite-lts.Need-same-length-6 (composite-calls t) (composite-at t) composite.Post composite-Inv-loop composite-μ-loop
+composite-same-length-6 t c = c .before .before .before .before .before .before .before .before .loop .inv .1 .lengths .0
 
-composite-same-length-3 : (t : ℕ) → composite-lts.Need-same-length-3 (composite-calls t) (composite-at t) composite.Post composite-Inv-loop composite-μ-loop
-composite-same-length-3 t c = c .before .before .before .before .before .before .before .before .loop .inv .1 .lengths .1
+composite-same-length-7 : (t : ℕ) → composite-lts.Need-same-length-7 (composite-calls t) (composite-at t) composite.Post composite-Inv-loop composite-μ-loop
+composite-same-length-7 t c = c .before .before .before .before .before .before .before .before .loop .inv .1 .lengths .1
 
-composite-returns-2 : (t : ℕ) → composite-lts.Need-returns-2 (composite-calls t) (composite-at t) composite.Post composite-Inv-loop composite-μ-loop
-composite-returns-2 t c =
+composite-returns-4 : (t : ℕ) → composite-lts.Need-returns-4 (composite-calls t) (composite-at t) composite.Post composite-Inv-loop composite-μ-loop
+composite-returns-4 t c =
     let loop = c .before .before .before .before .before .before .before .before .loop in
-    turn-fill-refused (loop .inv .0) (loop .inv .1) (c .before .before .before .before .before .before .before .next-step .ensures) (c .before .before .before .before .before .next .given .1) (c .before .before .before .fill-at .ensures) (c .before .f .given .1)
+    turn-fill-refused (loop .inv .0) (loop .inv .1) (c .before .before .before .before .before .before .before .next-step .ensures) (c .before .before .before .before .before .next .given .1) (c .before .before .before .fill-at2 .ensures) (c .before .f2 .given .1)
 
 composite-array-set-from-kept : (t : ℕ) → composite-lts.Need-array-set-from-kept (composite-calls t) (composite-at t) composite.Post composite-Inv-loop composite-μ-loop
 composite-array-set-from-kept t c =
@@ -233,10 +321,13 @@ composite-loop-again-2 t c =
     let loop = c .before .before .before .before .loop in
     (loop .inv .0, turn-into (loop .inv .0) (loop .inv .1) (c .before .before .before .next-step .ensures) (c .before .part .given .1) .0)
 
-composite-value-requires : (t : ℕ) → composite-lts.Need-value-requires (composite-calls t) (composite-at t) composite.Post composite-Inv-loop composite-μ-loop
-composite-value-requires t c κs =
+composite-value-requires-2 : (t : ℕ) → composite-lts.Need-value-requires-2 (composite-calls t) (composite-at t) composite.Post composite-Inv-loop composite-μ-loop
+composite-value-requires-2 t c κs =
     let loop = c .before .before .before .before .before .before .loop in
-    let k = turn-call (loop .inv .0) (loop .inv .1) (c .before .before .before .before .before .next-step .ensures) (c .before .before .before .part2 .given .1) in (omega (arith, c .before .before .before .before .before .before .before .before .before .before .before .before .before .before .before .before .pre .0, k .2), (k .0, k .1))
+    let k = turn-call (loop .inv .0) (loop .inv .1) (c .before .before .before .before .before .next-step .ensures) (c .before .before .before .part2 .given .1) in (omega (arith, c .before .before .before .before .before .before .before .before .before .before .before .before .before .before .before .before .before .before .before .before .pre .0, k .2), (k .0, k .1))
+
+composite-enum-known-e-2 : (t : ℕ) → composite-lts.Need-enum-known-e-2 (composite-calls t) (composite-at t) composite.Post composite-Inv-loop composite-μ-loop
+composite-enum-known-e-2 t c = search needs
 
 composite-add-place : (t : ℕ) → composite-lts.Need-add-place (composite-calls t) (composite-at t) composite.Post composite-Inv-loop composite-μ-loop
 composite-add-place t c =
@@ -246,17 +337,26 @@ composite-add-place t c =
 composite-loop-less-3 : (t : ℕ) → composite-lts.Need-loop-less-3 (composite-calls t) (composite-at t) composite.Post composite-Inv-loop composite-μ-loop
 composite-loop-less-3 t c =
     let loop = c .before .before .before .before .before .before .before .before .before .before .before .before .before .before .before .before .loop in
-    turn-called (loop .inv .0) (loop .inv .1) (c .before .before .before .before .before .before .before .before .before .before .before .before .before .before .before .next-step .ensures) (c .before .before .before .before .before .before .before .before .before .before .before .before .before .part2 .given .1) (c .before .before .before .before .before .before .before .before .before .value .ensures) (c .before .before .before .e2 .given .1) (c .number-at5 .ensures) .1
+    turn-called (loop .inv .0) (loop .inv .1) (c .before .before .before .before .before .before .before .before .before .before .before .before .before .before .before .next-step .ensures) (c .before .before .before .before .before .before .before .before .before .before .before .before .before .part2 .given .1) (c .before .before .before .before .before .before .before .before .before .value2 .ensures) (c .before .before .before .e2 .given .1) (c .number-at9 .ensures) .1
 
 composite-loop-again-3 : (t : ℕ) → composite-lts.Need-loop-again-3 (composite-calls t) (composite-at t) composite.Post composite-Inv-loop composite-μ-loop
 composite-loop-again-3 t c =
     let loop = c .before .before .before .before .before .before .before .before .before .before .before .before .before .before .before .before .loop in
-    (loop .inv .0, turn-called (loop .inv .0) (loop .inv .1) (c .before .before .before .before .before .before .before .before .before .before .before .before .before .before .before .next-step .ensures) (c .before .before .before .before .before .before .before .before .before .before .before .before .before .part2 .given .1) (c .before .before .before .before .before .before .before .before .before .value .ensures) (c .before .before .before .e2 .given .1) (c .number-at5 .ensures) .0)
+    (loop .inv .0, turn-called (loop .inv .0) (loop .inv .1) (c .before .before .before .before .before .before .before .before .before .before .before .before .before .before .before .next-step .ensures) (c .before .before .before .before .before .before .before .before .before .before .before .before .before .part2 .given .1) (c .before .before .before .before .before .before .before .before .before .value2 .ensures) (c .before .before .before .e2 .given .1) (c .number-at9 .ensures) .0)
 
-composite-returns-3 : (t : ℕ) → composite-lts.Need-returns-3 (composite-calls t) (composite-at t) composite.Post composite-Inv-loop composite-μ-loop
-composite-returns-3 t c =
+composite-enum-known-f-3 : (t : ℕ) → composite-lts.Need-enum-known-f-3 (composite-calls t) (composite-at t) composite.Post composite-Inv-loop composite-μ-loop
+composite-enum-known-f-3 t c = search needs
+
+composite-same-length-8 : (t : ℕ) → composite-lts.Need-same-length-8 (composite-calls t) (composite-at t) composite.Post composite-Inv-loop composite-μ-loop
+composite-same-length-8 t c = search needs
+
+composite-same-length-9 : (t : ℕ) → composite-lts.Need-same-length-9 (composite-calls t) (composite-at t) composite.Post composite-Inv-loop composite-μ-loop
+composite-same-length-9 t c = search needs
+
+composite-returns-5 : (t : ℕ) → composite-lts.Need-returns-5 (composite-calls t) (composite-at t) composite.Post composite-Inv-loop composite-μ-loop
+composite-returns-5 t c =
     let loop = c .before .before .before .before .before .before .before .before .before .before .before .before .before .before .loop in
-    turn-call-refused (loop .inv .0) (loop .inv .1) (c .before .before .before .before .before .before .before .before .before .before .before .before .before .next-step .ensures) (c .before .before .before .before .before .before .before .before .before .before .before .part2 .given .1) (c .before .before .before .before .before .before .before .value .ensures) (c .before .f2 .given .1)
+    turn-call-refused (loop .inv .0) (loop .inv .1) (c .before .before .before .before .before .before .before .before .before .before .before .before .before .next-step .ensures) (c .before .before .before .before .before .before .before .before .before .before .before .part2 .given .1) (c .before .before .before .before .before .before .before .value2 .ensures) (c .before .f3 .given .1)
 
 composite-sub-around : (t : ℕ) → composite-lts.Need-sub-around (composite-calls t) (composite-at t) composite.Post composite-Inv-loop composite-μ-loop
 composite-sub-around t c =
@@ -273,14 +373,14 @@ composite-loop-again-4 t c =
     let loop = c .before .before .before .before .loop in
     (loop .inv .0, turn-out (loop .inv .0) (loop .inv .1) (c .before .before .before .next-step .ensures) (c .before .enum-told .given .1) .0)
 
-composite-same-length-6 : (t : ℕ) → composite-lts.Need-same-length-6 (composite-calls t) (composite-at t) composite.Post composite-Inv-loop composite-μ-loop
-composite-same-length-6 t c = c .before .before .before .loop .inv .1 .lengths .0
+composite-same-length-10 : (t : ℕ) → composite-lts.Need-same-length-10 (composite-calls t) (composite-at t) composite.Post composite-Inv-loop composite-μ-loop
+composite-same-length-10 t c = c .before .before .before .loop .inv .1 .lengths .0
 
-composite-same-length-7 : (t : ℕ) → composite-lts.Need-same-length-7 (composite-calls t) (composite-at t) composite.Post composite-Inv-loop composite-μ-loop
-composite-same-length-7 t c = c .before .before .before .loop .inv .1 .lengths .1
+composite-same-length-11 : (t : ℕ) → composite-lts.Need-same-length-11 (composite-calls t) (composite-at t) composite.Post composite-Inv-loop composite-μ-loop
+composite-same-length-11 t c = c .before .before .before .loop .inv .1 .lengths .1
 
-composite-returns-4 : (t : ℕ) → composite-lts.Need-returns-4 (composite-calls t) (composite-at t) composite.Post composite-Inv-loop composite-μ-loop
-composite-returns-4 t c =
+composite-returns-6 : (t : ℕ) → composite-lts.Need-returns-6 (composite-calls t) (composite-at t) composite.Post composite-Inv-loop composite-μ-loop
+composite-returns-6 t c =
     let loop = c .before .before .before .loop in
     turn-done (loop .inv .0) (loop .inv .1) (c .before .before .next-step .ensures) (c .enum-told2 .given .1)
 
@@ -795,16 +895,22 @@ pub +composite+content+elements+envelopes+out-of-line+value-spec : {M : Type 1} 
     (composite-mul-number-at t) (composite-add-number-at t) (λ c κs. search needs) (λ c. search needs)
     (composite-mul-number-at-2 t) (composite-add-number-at-2 t) (λ c κs. search needs) (λ c. search needs)
     (composite-mul-number-at-3 t) (λ c κs. search needs) (λ c κs. search needs) (λ c κs. search needs) (λ c. search needs)
-    (composite-planned-requires t) (λ c. search needs) (composite-returns t)
-    (composite-loop-holds t) (λ c κs. search needs) (λ c. search needs) (composite-sub-fill-at t) (composite-fill-at-requires t)
+    (composite-planned-requires t) (λ c. search needs) (composite-returns t) (composite-mul-number-at-4 t)
+    (λ c κs. search needs) (composite-mul-number-at-5 t) (composite-add-number-at-3 t) (λ c κs. search needs)
+    (composite-has-parts-requires t) (composite-value-requires t) (composite-enum-known-d t)
+    (composite-number-at-requires-7 t) (λ c. search needs) (composite-add-stop t) (composite-number-at-requires-8 t)
+    (λ c. search needs) (composite-add-fill-at t) (composite-sub-fill-at t) (composite-fill-at-requires t)
+    (composite-same-length-2 t) (composite-same-length-3 t) (composite-returns-2 t) (composite-enum-known-f t)
+    (composite-same-length-4 t) (composite-same-length-5 t) (composite-returns-3 t) (composite-loop-holds t)
+    (λ c κs. search needs) (λ c. search needs) (composite-sub-fill-at-2 t) (composite-fill-at-requires-2 t)
     (λ c. search needs) (composite-add-level t) (composite-loop-less t) (composite-loop-again t) (λ c. search needs)
-    (composite-same-length-2 t) (composite-same-length-3 t) (composite-returns-2 t) (λ c. search needs) (λ c. search needs)
+    (composite-same-length-6 t) (composite-same-length-7 t) (composite-returns-4 t) (λ c. search needs) (λ c. search needs)
     (composite-array-set-from-kept t) (λ c. search needs) (composite-loop-less-2 t) (composite-loop-again-2 t)
-    (λ c. search needs) (composite-value-requires t) (λ c. search needs) (λ c κs. search needs) (λ c. search needs)
-    (composite-add-place t) (composite-loop-less-3 t) (composite-loop-again-3 t) (λ c. search needs) (λ c. search needs)
-    (λ c. search needs) (composite-returns-3 t) (λ c. search needs) (composite-sub-around t) (λ c. search needs)
-    (λ c. search needs) (composite-loop-less-4 t) (composite-loop-again-4 t) (λ c. search needs) (composite-same-length-6 t)
-    (composite-same-length-7 t) (composite-returns-4 t))
+    (λ c. search needs) (composite-value-requires-2 t) (composite-enum-known-e-2 t) (λ c κs. search needs) (λ c. search needs)
+    (composite-add-place t) (composite-loop-less-3 t) (composite-loop-again-3 t) (composite-enum-known-f-3 t)
+    (composite-same-length-8 t) (composite-same-length-9 t) (composite-returns-5 t) (λ c. search needs)
+    (composite-sub-around t) (λ c. search needs) (λ c. search needs) (composite-loop-less-4 t) (composite-loop-again-4 t)
+    (λ c. search needs) (composite-same-length-10 t) (composite-same-length-11 t) (composite-returns-6 t))
     (λ t. content-lts.spec (content-calls t)
     (content-at t)
     content.Post
