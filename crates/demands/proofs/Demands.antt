@@ -19,7 +19,7 @@ use Rattle.reader.specs.declared.Verdict.{Verdict}
 use Rattle.reader.specs.declared.Verdict.the-variants as Checked
 use Rattle.reader.specs.declared.Given.{Given}
 use Rattle.reader.specs.declared.Given.the-variants as One
-use Rattle.reader.specs.Doing as Doing
+use Rattle.walk_leaves.specs.Doing as Doing
 use Rattle.reader.specs.Answers.{verdictOf, givenOf, readingOf, lengthOf, lengthsOf, valuesIn, objectsIn}
 use Rattle.writer.specs.declared.Sizes.{Sizes}
 use Rattle.writer.specs.declared.Written.{Written}

@@ -16,7 +16,7 @@ use Rattle.reader.specs.declared.Verdict.the-variants as Checked
 use Rattle.reader.specs.declared.Given.{Given}
 use Rattle.reader.specs.declared.Given.the-variants as One
 use Rattle.reader.specs.declared.Reading.{Reading}
-use Rattle.reader.specs.Doing as Doing
+use Rattle.walk_leaves.specs.Doing as Doing
 use Rattle.reader.specs.Answers.{givenOf, readingOf}
 use Rattle.writer.specs.declared.Written.{Written}
 use Rattle.writer.specs.declared.Written.the-variants.{Accepted}

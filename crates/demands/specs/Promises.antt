@@ -11,7 +11,7 @@ use Rattle.rules.specs.Answers.{outputAfter}
 use Rattle.reader.specs.declared.Verdict.{Verdict}
 use Rattle.reader.specs.declared.Given.{Given}
 use Rattle.reader.specs.declared.Reading.{Reading}
-use Rattle.reader.specs.Doing as Doing
+use Rattle.walk_leaves.specs.Doing as Doing
 use Rattle.reader.specs.Answers.{verdictOf, givenOf, readingOf, lengthOf, lengthsOf, valuesIn, objectsIn}
 use Rattle.writer.specs.declared.Written.{Written}
 use Rattle.writer.specs.Answers.{writtenOf, sizesOf}

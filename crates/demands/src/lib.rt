@@ -7,7 +7,7 @@ ghost use Rattle.rules.specs.TypeTable.{typeTable};
 ghost use Rattle.rules.specs.Answers as Rules;
 ghost use Rattle.rules.specs.Answers.{outputAfter};
 ghost use Rattle.rules.specs.Demands.{IsWrittenTo};
-ghost use Rattle.reader.specs.Doing as Doing;
+ghost use Rattle.walk_leaves.specs.Doing as Doing;
 ghost use Rattle.demands.specs.Trips.{tripOf, trip};
 use reader::Given;
 use reader::Verdict;

@@ -10,7 +10,7 @@ use Rattle.rules.specs.declared.Fault.{Fault}
 use Rattle.rules.specs.Refusals.{number, placeNumber, Answer, accepted, refused, andThen}
 use Rattle.rules.specs.Bytes.{zeros}
 use Rattle.words.proofs.Stores.{bytesOf-byte}
-use Rattle.writer.proofs.Filling.{Filled, filled-more, filled-all}
+use Rattle.write_leaves.proofs.Filling.{Filled, filled-more, filled-all}
 use Rattle.rules.specs.Answers.{Lists, Written}
 use Rattle.reader.specs.Answers.{lengthOf, lengthsOf}
 use Rattle.writer.specs.Answers.{sizesOf}

@@ -10,7 +10,7 @@ ghost use Rattle.rules.specs.Bytes.{zeros};
 ghost use Rattle.rules.specs.TypeTable.{typeTable};
 ghost use Rattle.rules.specs.Answers as Rules;
 ghost use Rattle.rules.specs.Header as Headers;
-ghost use Rattle.reader.specs.Doing as Doing;
+ghost use Rattle.walk_leaves.specs.Doing as Doing;
 ghost use Rattle.reader.specs.Answers.{givenOf, valuesIn, objectsIn};
 ghost use Rattle.ratlinery.specs.Face.{told, nothing, laid, one, counted, bothCounted, sized, header, headed};
 use header::Header;

@@ -24,7 +24,7 @@ use Rattle.reader.specs.declared.Verdict.the-variants as Checked
 use Rattle.reader.specs.declared.Lengths.{Lengths}
 use Rattle.reader.specs.declared.Reading.{Reading}
 use Rattle.reader.specs.declared.Reading.the-variants.{Accepted, Refused}
-use Rattle.reader.specs.Doing.{message, valuesOf}
+use Rattle.walk_leaves.specs.Doing.{message, valuesOf}
 use Rattle.reader.specs.Answers.{verdictOf, readingOf, lengthsOf}
 use Rattle.reader.specs.Passing.{listsOf, BeforeWalk, Walkable, Passed, judgedLengths}
 

@@ -17,7 +17,7 @@ use Rattle.rules.proofs.Rooms.{room-short, room-enough, stored-list}
 use Rattle.reader.specs.declared.Lengths.{Lengths}
 use Rattle.reader.specs.declared.Reading.{Reading}
 use Rattle.reader.specs.declared.Reading.the-variants.{Accepted, Refused}
-use Rattle.reader.specs.Doing.{message}
+use Rattle.walk_leaves.specs.Doing.{message}
 use Rattle.reader.specs.Answers.{readingOf, lengthOf, lengthsOf, valuesIn, objectsIn}
 use Rattle.reader.specs.Passing.{Passed, judgedLengths}
 use Rattle.reader.proofs.Judging.{Held, as-refused, as-held, held-lists}

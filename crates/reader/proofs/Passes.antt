@@ -23,17 +23,17 @@ use Rattle.layout.proofs.Keeping.{few-rows, kept-size}
 use Rattle.nesting.specs.Ready.{Ready}
 use Rattle.reader.specs.declared.Reading.{Reading}
 use Rattle.reader.specs.declared.Reading.the-variants as Both
-use Rattle.reader.specs.declared.cursor.Cursor.{Cursor}
-use Rattle.reader.specs.declared.cursor.Stop.{Stop}
-use Rattle.reader.specs.declared.cursor.Walked.{Walked}
-use Rattle.reader.specs.declared.cursor.Walked.the-variants.{On, Refused}
-use Rattle.reader.specs.Doing.{message, faultOf, walkedOf, answer, Did, Ask}
-use Rattle.reader.specs.Parts.{claimAt, DidObjects}
-use Rattle.reader.specs.Walking.{ValueDid}
+use Rattle.walk_leaves.specs.declared.cursor.Cursor.{Cursor}
+use Rattle.walk_leaves.specs.declared.cursor.Stop.{Stop}
+use Rattle.walk_leaves.specs.declared.cursor.Walked.{Walked}
+use Rattle.walk_leaves.specs.declared.cursor.Walked.the-variants.{On, Refused}
+use Rattle.walk_leaves.specs.Doing.{message, faultOf, walkedOf, answer, Did, Ask}
+use Rattle.walk_leaves.specs.Parts.{claimAt, DidObjects}
+use Rattle.walk.specs.Walking.{ValueDid}
 use Rattle.reader.specs.Answers.{lengthsOf, readingOf}
 use Rattle.reader.specs.Passing.{listsOf, afterWalk, start, Walkable, PrimaryDid, Passed}
-use Rattle.reader.proofs.Steps.{did-then, did-halt}
-use Rattle.reader.proofs.Claiming.{claim-then, claim-on}
+use Rattle.walk_leaves.proofs.Steps.{did-then, did-halt}
+use Rattle.walk_records.proofs.Claiming.{claim-then, claim-on}
 
 -- The walk is the claim of the primary object, and then the root's value.
 walk-then : (m : Message) (root : ℕ)

@@ -18,9 +18,9 @@ use Rattle.nesting.specs.Ready.{Ready}
 use Rattle.reader.specs.declared.Verdict.{Verdict}
 use Rattle.reader.specs.declared.Lengths.{Lengths}
 use Rattle.reader.specs.declared.Reading.{Reading}
-use Rattle.reader.specs.declared.cursor.Cursor.{Cursor}
-use Rattle.reader.specs.declared.cursor.Walked.{Walked}
-use Rattle.reader.specs.Doing.{message, valuesOf, Did}
+use Rattle.walk_leaves.specs.declared.cursor.Cursor.{Cursor}
+use Rattle.walk_leaves.specs.declared.cursor.Walked.{Walked}
+use Rattle.walk_leaves.specs.Doing.{message, valuesOf, Did}
 use Rattle.reader.specs.Answers.{verdictOf, readingOf, lengthsOf}
 
 -- The lists of a message that is accepted.

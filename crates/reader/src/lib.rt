@@ -1,19 +1,12 @@
 // Checker, reader and object list: document 01, "The walk" and "Numbers and places". They share one walk.
-mod claims;
-mod cursor;
-mod envelopes;
 mod pass;
-mod planned;
-mod records;
-mod scalars;
-mod walk;
 
 ghost use mathlib.Core.Path.{_≡_};
 ghost use lib.ListN.{length};
 ghost use Rattle.rules.specs.declared.Place.the-variants.{Amount};
 ghost use Rattle.rules.specs.Refusals.{fault, lentAfter};
 ghost use Rattle.rules.specs.Answers as Rules;
-ghost use Rattle.reader.specs.Doing as Doing;
+ghost use Rattle.walk_leaves.specs.Doing as Doing;
 ghost use Rattle.reader.specs.Answers.{verdictOf, givenOf, readingOf, lengthOf, lengthsOf, valuesIn, objectsIn};
 use pass::judge;
 use pass::pass;

@@ -4,23 +4,23 @@ ghost use lib.ListN.{length};
 ghost use Rattle.rules.specs.TypeTable.{typeTable};
 ghost use Rattle.layout.specs.Answers as Layout;
 ghost use Rattle.layout.specs.Answers.{keptSizes, keptAlignments};
-ghost use Rattle.reader.specs.Doing.{message};
+ghost use Rattle.walk_leaves.specs.Doing.{message};
 ghost use Rattle.reader.specs.Answers.{readingOf};
 ghost use Rattle.reader.specs.Passing.{BeforeWalk, Walkable, PrimaryDid, afterWalk, Passed, judgedLengths};
 use crate::Lengths;
 use crate::Reading;
 use crate::Verdict;
-use crate::claims::claim;
-use crate::cursor::Cursor;
-use crate::cursor::Walked;
-use crate::cursor::fault_at;
-use crate::cursor::fault_of;
-use crate::walk::value;
 use layout::Soundness;
 use layout::prepare;
 use layout::root_allowed;
 use rules::Fault;
 use rules::Place;
+use walk::walk::value;
+use walk_leaves::claims::claim;
+use walk_leaves::cursor::Cursor;
+use walk_leaves::cursor::Walked;
+use walk_leaves::cursor::fault_at;
+use walk_leaves::cursor::fault_of;
 
 // Before the walk: 1, 2, 3, 4.
 fn before(verdict: Soundness, rows: &[u32], root: u32, length: usize, handles: u64) -> Verdict

@@ -24,15 +24,15 @@ use Rattle.layout.proofs.Keeping.{kept-size}
 use Rattle.nesting.specs.Ready.{Ready}
 use Rattle.writer.specs.declared.Written.{Written}
 use Rattle.writer.specs.declared.Written.the-variants as Whole
-use Rattle.writer.specs.declared.cursor.Cursor.{Cursor}
-use Rattle.writer.specs.declared.cursor.Stop.{Stop}
-use Rattle.writer.specs.declared.cursor.Wrote.{Wrote}
-use Rattle.writer.specs.declared.cursor.Wrote.the-variants.{On, Refused}
-use Rattle.writer.specs.Putting.{stop, faultOf, answer, Stored, Fit, Put, Ask}
-use Rattle.writer.specs.Walking.{ValuePut}
+use Rattle.write_leaves.specs.declared.cursor.Cursor.{Cursor}
+use Rattle.write_leaves.specs.declared.cursor.Stop.{Stop}
+use Rattle.write_leaves.specs.declared.cursor.Wrote.{Wrote}
+use Rattle.write_leaves.specs.declared.cursor.Wrote.the-variants.{On, Refused}
+use Rattle.write_leaves.specs.Putting.{stop, faultOf, answer, Stored, Fit, Put, Ask}
+use Rattle.write_walk.specs.Walking.{ValuePut}
 use Rattle.writer.specs.Answers.{writtenOf, sizesOf}
 use Rattle.writer.specs.Passing.{start, afterValue, PrimaryPut, Passed}
-use Rattle.writer.proofs.Claims.{object-put}
+use Rattle.write_records.proofs.Claims.{object-put}
 
 -- ---- the primary object
 

@@ -13,9 +13,9 @@ use Rattle.rules.specs.Answers as Rules
 use Rattle.rules.specs.Answers.{encode, closed}
 use Rattle.writer.specs.declared.Sizes.{Sizes}
 use Rattle.writer.specs.declared.Written.{Written}
-use Rattle.writer.specs.declared.cursor.Cursor.{Cursor}
-use Rattle.writer.specs.declared.cursor.Wrote.{Wrote}
-use Rattle.writer.specs.Putting.{Put}
+use Rattle.write_leaves.specs.declared.cursor.Cursor.{Cursor}
+use Rattle.write_leaves.specs.declared.cursor.Wrote.{Wrote}
+use Rattle.write_leaves.specs.Putting.{Put}
 use Rattle.writer.specs.Answers.{writtenOf, sizesOf}
 
 -- Where a message starts.

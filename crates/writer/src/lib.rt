@@ -1,11 +1,5 @@
 // The writer: document 01, "Object list and value list".
-mod cursor;
-mod envelopes;
 mod pass;
-mod planned;
-mod records;
-mod scalars;
-mod walk;
 
 ghost use mathlib.Core.Path.{_≡_};
 ghost use lib.ListN.{length};

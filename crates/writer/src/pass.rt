@@ -8,17 +8,17 @@ ghost use Rattle.writer.specs.Answers.{writtenOf, sizesOf};
 ghost use Rattle.writer.specs.Passing.{PrimaryPut, afterValue, Passed};
 use crate::Sizes;
 use crate::Written;
-use crate::cursor::Cursor;
-use crate::cursor::Wrote;
-use crate::cursor::fault_at;
-use crate::cursor::fault_of;
-use crate::cursor::put_zeros;
-use crate::walk::value;
 use layout::Soundness;
 use layout::prepare;
 use layout::root_allowed;
 use rules::Fault;
 use rules::Place;
+use write_leaves::cursor::Cursor;
+use write_leaves::cursor::Wrote;
+use write_leaves::cursor::fault_at;
+use write_leaves::cursor::fault_of;
+use write_leaves::cursor::put_zeros;
+use write_walk::walk::value;
 
 // The primary object: the root's value at 0, and its fill.
 fn primary(

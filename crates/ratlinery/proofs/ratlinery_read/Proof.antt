@@ -4,7 +4,7 @@ use mathlib.Core.List.{[], _∷_}
 use borrow.Author.Needs.{needs}
 use lib.ListN.{length}
 use Rattle.rules.specs.Answers as Rules
-use Rattle.reader.specs.Doing as Doing
+use Rattle.walk_leaves.specs.Doing as Doing
 use Rattle.ratlinery.proofs.Telling.{tells-result, tells-refusal, tells-lists, three-stored}
 use Rattle.ratlinery.proofs.ratlinery_read.Statement.{statement}
 use Rattle.ratlinery.proofs.ratlinery_read.Tie as tie

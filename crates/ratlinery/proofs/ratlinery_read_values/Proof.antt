@@ -3,7 +3,7 @@
 use borrow.Author.Needs.{needs}
 use lib.ListN.{length}
 use Rattle.rules.specs.Answers as Rules
-use Rattle.reader.specs.Doing as Doing
+use Rattle.walk_leaves.specs.Doing as Doing
 use Rattle.ratlinery.proofs.Telling.{tells-list}
 use Rattle.ratlinery.proofs.ratlinery_read_values.Statement.{statement}
 use Rattle.ratlinery.proofs.ratlinery_read_values.Tie as tie

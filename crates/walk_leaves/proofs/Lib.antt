@@ -1,0 +1,9 @@
+pub mod Steps
+pub mod InLine
+pub mod Objects
+pub mod Leading
+pub mod Runs
+pub mod Results
+pub mod Work
+pub mod ByPlan
+pub mod Bools

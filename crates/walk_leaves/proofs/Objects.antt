@@ -1,0 +1,83 @@
+-- Laws of fill and of claims; a law for each way that a function ends.
+-- Assumes nothing.
+use mathlib.Core.Path.{_≡_, refl, sym}
+use mathlib.Core.List.{List, [], _∷_}
+use Prim.Native.Nat.{ℕ, zero, suc, _+_, _-_, _*_, _/_, _≤_, _<_}
+use native.Mathlib.Nat.{add-zero}
+use native.Mathlib.Numerals.{add-one}
+use native.Mathlib.Omega.{arith}
+use borrow.Author.Tests.{le-leb, lt-leb, eq-eqb, ne-eqb}
+use lib.ListN.{length, set, take, drop}
+use lib.Seq.{sets}
+use Rattle.rules.specs.Refusals.{objectDoesNotFit, fillNotZero}
+use Rattle.rules.specs.Bytes.{part, leadingZeros, roundUp, padded}
+use Rattle.rules.specs.Trace.{objectList}
+use Rattle.rules.specs.Decode as D
+use Rattle.walk_leaves.specs.declared.cursor.Cursor.{Cursor}
+use Rattle.walk_leaves.specs.declared.cursor.Walked.{Walked}
+use Rattle.walk_leaves.specs.declared.cursor.Walked.the-variants.{On, Refused}
+use Rattle.walk_leaves.specs.Doing.{stop}
+use Rattle.walk_leaves.specs.Parts.{claimAt, DidObjects, DidNeither}
+use Rattle.walk_leaves.proofs.Steps.{cursor-same, did-stop, did-nothing}
+
+-- ---- fill
+
+zeros-most : (l : List ℕ) (count : ℕ) → leadingZeros (take count l) ≤ count
+unfolding leadingZeros
+zeros-most l zero = omega arith
+zeros-most [] (suc count) = omega arith
+zeros-most (zero ∷ l) (suc count) = omega (arith, zeros-most l count)
+zeros-most (suc byte ∷ l) (suc count) = omega arith
+
+-- all of it is zero
+pub all-zeros : (bytes : List ℕ) (at count : ℕ) {zeros : ℕ} → zeros ≡ leadingZeros (part bytes at count) → count ≤ zeros → leadingZeros (part bytes at count) ≡ count
+unfolding part
+all-zeros bytes at count e h = omega (arith, zeros-most (drop at bytes) count)
+
+module _ (bytes : List ℕ) (at count : ℕ) (c : Cursor) {zeros : ℕ} (e : zeros ≡ leadingZeros (part bytes at count)) where
+  pub fill-refused : {r : Walked} → zeros < count → r ≡ Refused (stop fillNotZero (at + zeros)) → DidNeither bytes 0 at c r (λ m. D.fill m count)
+  unfolding D.fill
+  fill-refused h f rows members values objects handles free held = simp (f, ← e, ne-eqb zeros count (λ q. omega arith)) (did-stop (omega arith))
+
+  pub fill-passed : count ≤ zeros → DidNeither bytes 0 at c (On c) (λ m. D.fill m count)
+  unfolding D.fill
+  fill-passed h rows members values objects handles free held = simp (eq-eqb _ _ (all-zeros bytes at count e h)) (did-nothing free held)
+
+-- ---- claims
+
+-- four stores, one after the other
+pub four-stores : (l : List ℕ) (i a b c d : ℕ) {l₁ l₂ l₃ l₄ : List ℕ} → l₁ ≡ set l i a → l₂ ≡ set l₁ (i + 1) b → l₃ ≡ set l₂ (i + 2) c → l₄ ≡ set l₃ (i + 3) d
+    → l₄ ≡ sets l i (a ∷ b ∷ c ∷ d ∷ [])
+four-stores l i a b c d p q r s =
+    let e : i + 2 ≡ suc (suc i) = omega arith in
+    let f : i + 3 ≡ suc (suc (suc i)) = omega arith in
+    rw (s, r, q, p, add-one i, e, f)
+
+-- an object's length with its fill, as the code has it
+abbrev pub whole : ℕ → ℕ
+whole size = (size + 7) / 8 * 8
+
+module _ (bytes objects : List ℕ) (kind row size : ℕ) (c : Cursor) where
+  pub claim-unfit : {r : Walked} → length bytes - c .next < whole size → r ≡ Refused (stop objectDoesNotFit (c .next))
+      → DidObjects bytes objects objects 4 0 c r (claimAt kind row size)
+  unfolding claimAt padded roundUp
+  claim-unfit h e rows members values handles free held = simp (e, lt-leb (c .next + whole size) (length bytes) (omega arith)) (did-stop (omega arith))
+
+  module _ (fits : whole size ≤ length bytes - c .next) {zeros : ℕ} (e : zeros ≡ leadingZeros (part bytes (c .next + size) (whole size - size))) where
+    pub claim-unfilled : {r : Walked} → zeros < whole size - size → r ≡ Refused (stop fillNotZero (c .next + size + zeros))
+        → DidObjects bytes objects objects 4 0 c r (claimAt kind row size)
+    unfolding claimAt padded roundUp
+    claim-unfilled h f rows members values handles free held =
+        simp (f, ← e, le-leb (c .next + whole size) (length bytes) (omega arith), ne-eqb zeros (whole size - size) (λ q. omega arith)) (did-stop (omega arith))
+
+    pub claim-given : {objects′ : List ℕ} → whole size - size ≤ zeros → objects′ ≡ sets objects (c .objects) (kind ∷ row ∷ c .next ∷ size ∷ [])
+        → DidObjects bytes objects objects′ 4 0 c (On (record { next = c .next + whole size; handles = c .handles; values = c .values; objects = c .objects + 4 })) (claimAt kind row size)
+    unfolding claimAt padded roundUp objectList
+    claim-given h f rows members values handles free held =
+        simp (le-leb (c .next + whole size) (length bytes) (omega arith), eq-eqb _ _ (all-zeros bytes (c .next + size) (whole size - size) e h)) (record {
+          says = cursor-same (c .next + whole size) (c .handles) (sym (add-zero (c .values))) refl;
+          valued = refl;
+          listed = f;
+          within = (omega arith, held, omega arith);
+          rises = (omega arith, omega arith);
+        })

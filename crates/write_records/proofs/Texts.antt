@@ -1,0 +1,263 @@
+-- A string: its bytes are put into the object that its record opened, the fill after them, and then the text is judged.
+-- Assumes nothing.
+use mathlib.Core.Path.{_≡_, refl, sym, ap, subst, _∙_}
+use mathlib.Core.Bool.{Bool, true, false, not}
+use mathlib.Core.List.{List, [], _∷_, _++_}
+use Prim.Native.Nat.{ℕ, zero, suc, _+_, _-_, _*_, _≤_, _<_}
+use native.Mathlib.Omega.{arith}
+use mir.Syntax.{w64}
+use mir.Val.{Fits}
+use lib.Dec.{eqb, leb}
+use lib.ListN.{length, drop, take, length-append, length-drop}
+use lib.Seq.{sets}
+use Rattle.rules.specs.Refusals.{notAValue, messageTooLong, tooDeep}
+use Rattle.rules.specs.Bytes.{zeros, padded}
+use Rattle.rules.specs.Text.{isUtf8}
+use Rattle.rules.specs.TypeTable.{TypeTable, typeTable}
+use Rattle.rules.specs.Encode as E
+use Rattle.rules.specs.Encode.{Encoded, wrote, cannot, Encoder, WriteRecord, put, unfit}
+use Rattle.rules.specs.Envelope.{encodeWord}
+use Rattle.rules.specs.Records.{writeCount}
+use Rattle.rules.specs.Writer as R
+use Rattle.rules.proofs.Bytes.{padded-above}
+use Rattle.write_leaves.specs.declared.cursor.Cursor.{Cursor}
+use Rattle.write_leaves.specs.declared.cursor.Stop.{Stop}
+use Rattle.write_leaves.specs.declared.cursor.Wrote.{Wrote}
+use Rattle.write_leaves.specs.declared.cursor.Wrote.the-variants as W
+use Rattle.write_records.specs.declared.records.Opening.{Opening}
+use Rattle.write_records.specs.declared.records.Opened.{Opened}
+use Rattle.write_records.specs.declared.records.Opened.the-variants.{Closed, Open, Refused}
+use Rattle.write_leaves.specs.Putting.{stop, answer, Stored, Fit, Put, PutsInLine, Stands, Ask}
+use Rattle.write_records.specs.Opening.{opened, claimedFrom, ObjectPut, Opens}
+use Rattle.write_leaves.specs.InLine.{numbersAs}
+use Rattle.write_records.specs.Contracts.{afterCount, CountedOpens, StringPuts}
+use Rattle.write_records.proofs.Claims.{object-stored, length-zeros}
+use Rattle.write_records.proofs.Openings.{record-same}
+use Rattle.write_records.proofs.Counts.{counted-stands}
+
+-- ---- answers
+
+abbrev numberOf : Wrote → ℕ
+numberOf (W.On d) = 1
+numberOf (W.Refused s) = s .number
+
+abbrev indexOf : Wrote → ℕ
+indexOf (W.On d) = d .index
+indexOf (W.Refused s) = s .index
+
+abbrev onOf : Wrote → ℕ
+onOf (W.On d) = 1
+onOf (W.Refused s) = 0
+
+-- ---- the object
+
+-- An object is written in the output that it is claimed in, and then its fill.
+object-here : {values out mid out′ : List ℕ} {size base : ℕ} {c : Cursor} {r : Wrote} (e : Encoded) → base ≤ c .next
+    → Put values out mid size (c .next - base) base (opened size c) r e
+    → out′ ≡ sets mid (c .next - base + size) (zeros (padded size - size))
+    → Put values out out′ 0 0 base c r (E.asObject size e)
+object-here {values} {out} {mid} {out′} {size} {base} {c} {r} e within p z = go e (p .says) (p .stored) (p .fit)
+  where
+    free : ℕ
+    free = c .next - base
+
+    go : (e : Encoded) → r ≡ answer (length values) e → Stored out mid (c .next - base) (opened size c .next - base) e → Fit values size (opened size c) e → Put values out out′ 0 0 base c r (E.asObject size e)
+    go (wrote inline outside n u rest) a s f =
+        let begun : c .next + padded size - base ≡ c .next - base + padded size = omega arith in
+        let whole : length inline + length (zeros (padded size - size)) ≡ padded size = omega (arith, f .whole, length-zeros (padded size - size), padded-above size) in
+        let sized : c .next - base + size ≡ c .next - base + length inline = omega (arith, f .whole) in
+        let s′ : mid ≡ sets (sets out (c .next - base) inline) (c .next - base + padded size) outside = rw begun at s in
+        record {
+          says = a;
+          stored = z ∙ rw (s′, sized) (object-stored out (c .next - base) (padded size) inline (zeros (padded size - size)) outside whole);
+          fit = record {
+            whole = refl;
+            claimed = omega (arith, f .claimed, length-append (inline ++ zeros (padded size - size)) outside, length-append inline (zeros (padded size - size)), whole);
+            short = f .short;
+            counted = f .counted;
+            few = f .few;
+            taken = f .taken;
+            left = f .left;
+          };
+        }
+    go (cannot number left) a s f = record { says = a; stored = tt; fit = f }
+
+-- ---- the test
+
+module _ {values out mid : List ℕ} {size at base : ℕ} {c : Cursor} where
+  checked-cannot : {f : Stop} (e : Encoded) → Put values out mid size at base c (W.Refused f) e
+      → Put values out mid size at base c (W.Refused f) (E.checkedGoes isUtf8 (drop (c .index) values) e)
+  checked-cannot (wrote inline outside n u rest) p = absurd (let z : _≡_ {A = ℕ} 0 1 = ap onOf (p .says) in omega arith)
+  checked-cannot (cannot number left) p = p
+
+  module _ {d : Cursor} where
+    took-these : (inline outside : List ℕ) (n u : ℕ) (rest : List ℕ) → Put values out mid size at base c (W.On d) (wrote inline outside n u rest)
+        → d .index - c .index ≡ length (drop (c .index) values) - length rest
+    took-these inline outside n u rest p =
+        let i : d .index ≡ length values - length rest = ap indexOf (p .says) in
+        omega (arith, i, length-drop (c .index) values)
+
+    checked-holds : (e : Encoded) → Put values out mid size at base c (W.On d) e → isUtf8 (take (d .index - c .index) (drop (c .index) values)) ≡ true
+        → Put values out mid size at base c (W.On d) (E.checkedGoes isUtf8 (drop (c .index) values) e)
+    checked-holds (wrote inline outside n u rest) p h =
+        let k : isUtf8 (take (length (drop (c .index) values) - length rest) (drop (c .index) values)) ≡ true = rw (took-these inline outside n u rest p) at h in
+        rw k p
+    checked-holds (cannot number left) p h = absurd (let z : _≡_ {A = ℕ} 1 0 = ap onOf (p .says) in omega arith)
+
+    checked-fails : (e : Encoded) → Put values out mid size at base c (W.On d) e → isUtf8 (take (d .index - c .index) (drop (c .index) values)) ≡ false
+        → Put values out mid size at base c (W.Refused (stop notAValue (length values - suc (length (drop (c .index) values))))) (E.checkedGoes isUtf8 (drop (c .index) values) e)
+    checked-fails (wrote inline outside n u rest) p h =
+        let k : isUtf8 (take (length (drop (c .index) values) - length rest) (drop (c .index) values)) ≡ false = rw (took-these inline outside n u rest p) at h in
+        rw k (record { says = refl; stored = tt; fit = omega arith })
+    checked-fails (cannot number left) p h = absurd (let z : _≡_ {A = ℕ} 1 0 = ap onOf (p .says) in omega arith)
+
+    done-within : (e : Encoded) → Put values out mid size at base c (W.On d) e → (c .index ≤ d .index) × (d .index ≤ length values)
+    done-within (wrote inline outside n u rest) p =
+        let i : d .index ≡ length values - length rest = ap indexOf (p .says) in
+        (omega (arith, i, p .fit .taken), omega (arith, i))
+    done-within (cannot number left) p = absurd (let z : _≡_ {A = ℕ} 1 0 = ap onOf (p .says) in omega arith)
+
+-- ---- the number that was judged
+
+-- What an object that is refused at the number before it answers: so the record's own number is the one before the object's.
+module _ (total next used mark : ℕ) (below : E.Deeper) (write : ℕ → WriteRecord) where
+  abbrev marked : (count : ℕ) → (ℕ → Encoder) → E.Deeper → Encoder
+  marked count rows b numbers n u = cannot 0 (suc (length numbers))
+
+  marks-down : (below : E.Deeper) (bytes : List ℕ) (count : ℕ) (numbers : List ℕ)
+      → W.Refused (stop 0 mark) ≡ answer total (E.after bytes [] (E.oneDeeper below (λ rows b. E.claim (count * 1) (marked count rows b)) numbers next used))
+      → mark ≡ total - suc (length numbers)
+  unfolding E.claim
+  marks-down E.spent bytes count numbers e = absurd (let z : _≡_ {A = ℕ} 0 tooDeep = ap numberOf e in omega arith)
+  marks-down (E.deeper rows b) bytes count numbers e = go (leb (next + padded (count * 1)) 65536) e
+    where
+      go : (space : Bool) → W.Refused (stop 0 mark) ≡ answer total (E.after bytes [] (E.require space messageTooLong (suc (length numbers)) (cannot 0 (suc (length numbers)))))
+          → mark ≡ total - suc (length numbers)
+      go true e = ap indexOf e
+      go false e = absurd (let z : _≡_ {A = ℕ} 0 messageTooLong = ap numberOf e in omega arith)
+
+  marks-record : (w : WriteRecord) (v : ℕ) (numbers : List ℕ) → W.Refused (stop 0 mark) ≡ answer total (E.recordGoes w (suc (length numbers)) (afterCount below 1 marked v numbers next used))
+      → mark ≡ total - suc (length numbers)
+  marks-record unfit v numbers e = absurd (let z : _≡_ {A = ℕ} 0 notAValue = ap numberOf e in omega arith)
+  marks-record (put bytes) zero numbers e = absurd (let z : _≡_ {A = ℕ} 0 1 = ap numberOf e in omega arith)
+  marks-record (put bytes) (suc count) numbers e = marks-down below bytes count numbers e
+
+  marks : (numbers : List ℕ) → W.Refused (stop 0 mark) ≡ answer total (E.recordThen write (afterCount below 1 marked) numbers next used) → mark ≡ total - length numbers
+  unfolding E.recordThen
+  marks [] e = absurd (let z : _≡_ {A = ℕ} 0 notAValue = ap numberOf e in omega arith)
+  marks (v ∷ numbers) e = marks-record (write v) v numbers e
+
+-- ---- the string
+
+module _ (values out half : List ℕ) (depth at base : ℕ) (c : Cursor) (largest optional : ℕ) (r : Opened) (ask : Ask values 16 at base c)
+    (opens : CountedOpens values out half depth at c 1 largest optional r) where
+  string-opens : (t : TypeTable) → Opens values out half 16 at base c
+      (E.recordThen (writeCount (eqb optional 1) largest) (R.afterString t (R.levels t depth)) (drop (c .index) values) (c .next) (c .handles))
+      (λ x. x .count * 1) (λ x. E.checked isUtf8 (E.elements (λ i. encodeWord 1) 0 (x .count))) r
+  string-opens t =
+      rw (record-same (writeCount (eqb optional 1) largest) (R.afterString t (R.levels t depth))
+      (afterCount (R.levels t depth) 1 (λ count rows b. E.checked isUtf8 (E.elements (λ i. encodeWord 1) 0 count))) same (drop (c .index) values) (c .next) (c .handles))
+      (opens t base (λ count rows b. E.checked isUtf8 (E.elements (λ i. encodeWord 1) 0 count)) ask)
+    where
+      same : (v : ℕ) (numbers : List ℕ) (n u : ℕ)
+          → R.afterString t (R.levels t depth) v numbers n u ≡ afterCount (R.levels t depth) 1 (λ count rows b. E.checked isUtf8 (E.elements (λ i. encodeWord 1) 0 count)) v numbers n u
+      same zero numbers n u = refl
+      same (suc count) numbers n u = refl
+
+  pub string-closed : {d : Cursor} → r ≡ Closed d → StringPuts values out half depth at c base largest optional (W.On d)
+  string-closed e t = rw e at (string-opens t)
+
+  pub string-refused : {f : Stop} → r ≡ Refused f → StringPuts values out half depth at c base largest optional (W.Refused f)
+  string-refused e t = rw e at (string-opens t)
+
+  module _ {x : Opening} (is-open : r ≡ Open x) where
+    stands : (x .start ≡ c .next) × (x .cursor ≡ opened (x .count * 1) (claimedFrom x)) × Stands values (x .cursor)
+    stands = counted-stands values out half depth at c 1 largest optional r opens ask is-open
+
+    ends : x .cursor .next ≡ x .start + padded (x .count * 1)
+    ends = ap (λ (k : Cursor). k .next) (stands .1)
+
+    pub string-base : base ≤ x .start
+    string-base = omega (arith, stands .0, ask .inside)
+
+    pub string-stands : Stands values (x .cursor)
+    string-stands = stands .2
+
+    pub string-numbers : x .start - base + x .count * 1 ≤ 65536
+    string-numbers = omega (arith, ends, padded-above (x .count * 1), stands .2 .free)
+
+    pub string-fits : Fits w64 (x .start - base + x .count)
+    string-fits = omega (arith, ends, padded-above (x .count * 1), stands .2 .free)
+
+    pub string-start : x .start ≤ x .cursor .next
+    string-start = omega (arith, ends)
+
+    pub string-fill : x .count ≤ x .cursor .next - x .start
+    string-fill = omega (arith, ends, padded-above (x .count * 1))
+
+    pub string-filled : x .start - base + x .count + (x .cursor .next - x .start - x .count) < 4294967296
+    string-filled = omega (arith, ends, padded-above (x .count * 1), stands .2 .free)
+
+    pub string-index-fits : length values < 1152921504606846976 → Fits w64 (x .cursor .index * 8)
+    string-index-fits h = omega (arith, stands .2 .left)
+
+    judged : length values - suc (length (drop (x .cursor .index) values)) ≡ c .index
+    judged =
+        let mark : ℕ = length values - suc (length (drop (x .cursor .index) values)) in
+        let o = rw is-open at (opens (typeTable [] []) base (λ count rows b numbers n u. cannot 0 (suc (length numbers))) ask) in
+        let p = o .3 half (W.Refused (stop 0 mark)) (record { says = refl; stored = tt; fit = omega arith }) in
+        let m : mark ≡ length values - length (drop (c .index) values) = marks (length values) (c .next) (c .handles) mark (R.levels (typeTable [] []) depth) (writeCount (eqb optional 1) largest) (drop (c .index) values) (p .says) in
+        omega (arith, m, length-drop (c .index) values, ask .left)
+
+    module _ {mid : List ℕ} {s : Wrote} (puts : PutsInLine values half mid (x .count * 1) (x .start - base) (x .cursor) s (numbersAs 1 (x .count))) where
+      abbrev run : Encoded
+      run = E.elements (λ i. encodeWord 1) 0 (x .count) (drop (x .cursor .index) values) (x .start + padded (x .count * 1)) (x .cursor .handles)
+
+      ran : Put values half mid (x .count * 1) (x .start - base) base (opened (x .count * 1) (claimedFrom x)) s run
+      unfolding numbersAs E.elements
+      ran = subst (λ (k : Cursor). Put values half mid (x .count * 1) (x .start - base) base k s (E.elements (λ i. encodeWord 1) 0 (x .count) (drop (k .index) values) (k .next) (k .handles))) (stands .1) (puts base)
+
+      close : {last : List ℕ} {w : Wrote} → Put values half mid (x .count * 1) (x .start - base) base (opened (x .count * 1) (claimedFrom x)) w (E.checkedGoes isUtf8 (drop (x .cursor .index) values) run)
+          → last ≡ sets mid (x .start - base + x .count * 1) (zeros (padded (x .count * 1) - x .count * 1))
+          → StringPuts values out last depth at c base largest optional w
+      unfolding E.checked E.elements
+      close {last} {w} p z t = let o = rw is-open at (string-opens t) in o .3 last w (object-here (E.checkedGoes isUtf8 (drop (x .cursor .index) values) run) string-base p z)
+
+      halted : {last : List ℕ} {f : Stop} → s ≡ W.Refused f → StringPuts values out last depth at c base largest optional (W.Refused f)
+      unfolding E.checked E.elements
+      halted {last} {f} e t =
+          let p : Put values half mid (x .count * 1) (x .start - base) base (opened (x .count * 1) (claimedFrom x)) (W.Refused f) run = rw e at ran in
+          let o = rw is-open at (string-opens t) in
+          o .3 last (W.Refused f) (refused-object (E.checkedGoes isUtf8 (drop (x .cursor .index) values) run) (checked-cannot run p .says) (checked-cannot run p .fit))
+        where
+          refused-object : (e : Encoded) → W.Refused f ≡ answer (length values) e → Fit values (x .count * 1) (opened (x .count * 1) (claimedFrom x)) e
+              → Put values half last 0 0 base (claimedFrom x) (W.Refused f) (E.asObject (x .count * 1) e)
+          refused-object (wrote inline outside n u rest) a k = absurd (let z : _≡_ {A = ℕ} 0 1 = ap onOf a in omega arith)
+          refused-object (cannot number left) a k = record { says = a; stored = tt; fit = k }
+
+      pub string-halted : {f : Stop} → s ≡ W.Refused f → StringPuts values out mid depth at c base largest optional (W.Refused f)
+      string-halted e = halted e
+
+      module _ {d : Cursor} (on : s ≡ W.On d) where
+        ran-on : Put values half mid (x .count * 1) (x .start - base) base (opened (x .count * 1) (claimedFrom x)) (W.On d) run
+        ran-on = rw on at ran
+
+        pub string-from : x .cursor .index ≤ d .index
+        string-from = done-within run ran-on .0
+
+        pub string-to : d .index ≤ length values
+        string-to = done-within run ran-on .1
+
+        module _ {last : List ℕ} {b : Bool} (z : last ≡ sets mid (x .start - base + x .count) (zeros (x .cursor .next - x .start - x .count)))
+            (test : b ≡ isUtf8 (take (d .index - x .cursor .index) (drop (x .cursor .index) values))) where
+          filled : last ≡ sets mid (x .start - base + x .count * 1) (zeros (padded (x .count * 1) - x .count * 1))
+          filled =
+              let p : x .start - base + x .count ≡ x .start - base + x .count * 1 = omega arith in
+              let q : x .cursor .next - x .start - x .count ≡ padded (x .count * 1) - x .count * 1 = omega (arith, ends) in
+              rw (← p, ← q) z
+
+          pub string-put : b ≡ true → StringPuts values out last depth at c base largest optional (W.On d)
+          string-put h = close (checked-holds run ran-on (sym test ∙ h)) filled
+
+          pub string-unfit : {w : Wrote} → b ≡ false → w ≡ W.Refused (stop notAValue (c .index)) → StringPuts values out last depth at c base largest optional w
+          string-unfit {w} h e = rw e (subst (λ (k : ℕ). StringPuts values out last depth at c base largest optional (W.Refused (stop notAValue k))) judged (close (checked-fails run ran-on (sym test ∙ h)) filled))

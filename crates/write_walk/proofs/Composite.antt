@@ -1,0 +1,124 @@
+-- The loop over nested structs and arrays: what it keeps, and what each of its steps makes of it.
+-- Assumes nothing.
+use mathlib.Core.Bool.{Bool, true, false}
+use mathlib.Core.List.{List}
+use mathlib.Core.Path.{_≡_, refl, sym, ap, _∙_}
+use Prim.Native.Nat.{ℕ, _+_, _-_, _≤_, _<_}
+use native.Mathlib.Omega.{arith}
+use lib.ListN.{length, drop, getD, set}
+use lib.Seq.{sets, length-sets}
+use Rattle.rules.specs.Bytes.{zeros}
+use Rattle.rules.specs.TypeTable.{typeTable}
+use Rattle.rules.specs.Sizes.{layoutOf, sizeOf}
+use Rattle.rules.specs.Refusals.{accepted}
+use Rattle.rules.specs.Sound.{soundness}
+use Rattle.rules.specs.Writer as R
+use Rattle.nesting.specs.declared.Level.{Level}
+use Rattle.nesting.specs.declared.Step.{Step}
+use Rattle.nesting.specs.declared.Step.the-variants.{Fill, Into, Call, Out, Done}
+use Rattle.nesting.specs.Nesting.{hasParts, nextStep}
+use Rattle.nesting.specs.Ready.{Ready}
+use Rattle.nesting.proofs.Items.{Item, itemsOf, fields-size}
+use Rattle.nesting.proofs.Left.{advanced, fieldsLeft}
+use Rattle.nesting.proofs.Starts.{startOf, start-size}
+use Rattle.nesting.proofs.Steps.{Known, Stepped, fuel}
+use Rattle.nesting.proofs.Going.{Going, Bounded, Opens}
+use Rattle.nesting.proofs.Turns as T
+use Rattle.write_leaves.specs.declared.cursor.Cursor.{Cursor}
+use Rattle.write_leaves.specs.declared.cursor.Stop.{Stop}
+use Rattle.write_leaves.specs.declared.cursor.Wrote.{Wrote}
+use Rattle.write_leaves.specs.declared.cursor.Wrote.the-variants.{On, Refused}
+use Rattle.write_leaves.specs.Putting.{Ask}
+use Rattle.write_walk.specs.Walking.{writeRow, ValuePut}
+use Rattle.write_leaves.proofs.Leading.{ask-stands, wrote-length}
+use Rattle.write_leaves.proofs.Filling.{fill-put}
+use Rattle.write_leaves.proofs.Work.{WorkLeft, item-asks, item-on, item-refused, work-into, work-end, work-start}
+use Rattle.write_walk.proofs.Begins.{begins}
+
+module _ (rows members values : List ℕ) (base depth top at : ℕ) (out : List ℕ) (c : Cursor) (out′ : List ℕ) (d : Cursor) where
+  -- What is left of the value of the row `top`, which began at the cursor `c`.
+  abbrev pub PartsLeft : List Item → (place : ℕ) → Type 0
+  PartsLeft =
+      WorkLeft (layoutOf (typeTable rows members)) (writeRow rows members depth) values base (sizeOf (typeTable rows members) top) at
+      (writeRow rows members depth top (drop (c .index) values) (c .next) (c .handles)) out c out′ d
+
+  parts-bounded : Bounded rows members PartsLeft
+  parts-bounded is place w = omega (arith, w .asks .inside, w .asks .free)
+
+  parts-open : soundness (typeTable rows members) ≡ accepted tt → Opens rows members PartsLeft
+  parts-open sound row rest place parts used w =
+      let t = typeTable rows members in
+      let fields = fieldsLeft t (startOf row place) place in
+      work-into (itemsOf fields) w (begins t (R.levels t depth) row sound used parts place) (start-size t row sound used parts place ∙ sym (fields-size (layoutOf t) fields))
+
+-- The state of the loop.
+pub record Writing (none : Level) (rows members alignments values : List ℕ) (base depth top at : ℕ) (out : List ℕ) (c : Cursor)
+    (out′ : List ℕ) (kept : List Level) (around : ℕ) (level : Level) (due : Bool) (place : ℕ) (d : Cursor) : Type 0 where
+  pub going : Going none rows members alignments top (PartsLeft rows members values base depth top at out c out′ d) kept around level due place
+  pub lengths : length out′ ≡ length out
+
+pub writing-start : {rows members sizes alignments values : List ℕ} {base depth top at : ℕ} {c : Cursor} → Ready rows members sizes alignments depth top
+    → (none : Level) (out : List ℕ) (kept : List Level) → length kept ≡ 8 → hasParts rows top ≡ true → Ask values (sizeOf (typeTable rows members) top) at base c
+    → Writing none rows members alignments values base depth top at out c out kept 0 (startOf top at) false at c
+writing-start {rows} {members} {values = values} {base} {depth} {top} {at} {c} ready none out kept h parts a =
+    let t = typeTable rows members in
+    let fields = fieldsLeft t (startOf top at) at in
+    let sized = start-size t top (ready .sound) (ready .in-use) parts at ∙ sym (fields-size (layoutOf t) fields) in
+    let work = work-start (layoutOf t) (writeRow rows members depth) values base at out c top (itemsOf fields) a (begins t (R.levels t depth) top (ready .sound) (ready .in-use) parts at) sized in
+    record { going = T.going-start ready (PartsLeft rows members values base depth top at out c out c) none kept h parts work; lengths = refl }
+
+module _ {none : Level} {rows members sizes alignments values : List ℕ} {base depth top at : ℕ} {out : List ℕ} {c : Cursor} (ready : Ready rows members sizes alignments depth top)
+    {out′ : List ℕ} {kept : List Level} {around : ℕ} {level : Level} {due : Bool} {place : ℕ} {d : Cursor}
+    (w : Writing none rows members alignments values base depth top at out c out′ kept around level due place d) where
+  bounded : Bounded rows members (PartsLeft rows members values base depth top at out c out′ d)
+  bounded = parts-bounded rows members values base depth top at out c out′ d
+
+  pub level-known : Known top level place
+  level-known = T.state-known ready bounded (w .going)
+
+  -- The step that the code makes.
+  module _ {s : Step} (e : s ≡ nextStep rows members level alignments due place around) where
+    step : {t : Step} → s ≡ t → Stepped rows members level alignments place around due t
+    step q = T.step-of ready bounded (w .going) e q
+
+    pub fill-within : {next : ℕ} → s ≡ Fill next → (place ≤ next) × (next ≤ 65536)
+    fill-within q = let f = T.turn-fill ready bounded (step q) (w .going) in (f .0, f .1)
+
+    pub fill-done : {next : ℕ} {out″ : List ℕ} → s ≡ Fill next → out″ ≡ sets out′ place (zeros (next - place))
+        → Writing none rows members alignments values base depth top at out c out″ kept around (advanced level) false next d × (fuel rows (advanced level) false next around < fuel rows level due place around)
+    fill-done {next} {out″} q stored =
+        let f = T.turn-fill ready bounded (step q) (w .going) in
+        let stops : place + (next - place) ≡ next = omega (arith, f .0) in
+        let left = item-on (f .2) (fill-put (next - place) (ask-stands (f .2 .asks)) stored base) in
+        let turn = T.turn-filled ready bounded (step q) (w .going) (PartsLeft rows members values base depth top at out c out″ d) (rw stops at left) in
+        (record { going = turn .0; lengths = ap length stored ∙ length-sets out′ place (zeros (next - place)) ∙ w .lengths }, turn .1)
+
+    pub into-done : {part : ℕ} → s ≡ Into part
+        → Writing none rows members alignments values base depth top at out c out′ (set kept around level) (around + 1) (startOf part place) due place d
+        × (fuel rows (startOf part place) due place (around + 1) < fuel rows level due place around) × (around < 8)
+    into-done q =
+        let turn = T.turn-into ready bounded (step q) (w .going) (parts-open rows members values base depth top at out c out′ d (ready .sound)) in
+        (record { going = turn .0; lengths = w .lengths }, turn .1, turn .2)
+
+    pub call-asks : {part : ℕ} → s ≡ Call part → Ready rows members sizes alignments depth part × Ask values (sizeOf (typeTable rows members) part) place base d × (part < top)
+    call-asks q = let turn = T.turn-call ready bounded (step q) (w .going) in (turn .0, item-asks (turn .2), turn .1)
+
+    module _ {part : ℕ} {out″ : List ℕ} {r : Wrote} (q : s ≡ Call part) (p : ValuePut rows members values out′ out″ base depth place d part r) where
+      pub call-done : {f : Cursor} {size : ℕ} → r ≡ On f → size ≡ getD sizes part 0
+          → Writing none rows members alignments values base depth top at out c out″ kept around level true (place + size) f × (fuel rows level true (place + size) around < fuel rows level due place around)
+      call-done {f} same is =
+          let put : ValuePut rows members values out′ out″ base depth place d part (On f) = rw same at p in
+          let left = item-on (T.turn-call ready bounded (step q) (w .going) .2) put in
+          let turn = T.turn-called ready bounded (step q) (w .going) is (PartsLeft rows members values base depth top at out c out″ f) (parts-bounded rows members values base depth top at out c out″ f) left in
+          (record { going = turn .0; lengths = wrote-length put ∙ w .lengths }, turn .1)
+
+      pub call-refused : {f : Stop} → r ≡ Refused f → ValuePut rows members values out out″ base depth at c top (Refused f)
+      call-refused same = item-refused (T.turn-call ready bounded (step q) (w .going) .2) (rw same at p)
+
+    pub out-done : s ≡ Out
+        → Writing none rows members alignments values base depth top at out c out′ kept (around - 1) (getD kept (around - 1) none) true place d
+        × (fuel rows (getD kept (around - 1) none) true place (around - 1) < fuel rows level due place around) × (0 < around)
+    out-done q = let turn = T.turn-out ready bounded (step q) (w .going) in (record { going = turn .0; lengths = w .lengths }, turn .1, turn .2)
+
+    pub all-put : s ≡ Done → ValuePut rows members values out out′ base depth at c top (On d)
+    all-put q = work-end (T.turn-done ready bounded (step q) (w .going))
