@@ -82,11 +82,11 @@ module _ (rows members : List ℕ) (root : ℕ) where
   pub demand1 : Demand1 rows members root
   demand1 = record {
     valuesKeep = λ {message} {values} {values′} {handles} r p.
-        keeps (givenOf r) (Rules.readValues (Doing.message rows members message handles) root (length values)) values values′ (p .answer) (p .list);
+        keeps (givenOf r) (Rules.readValues (Doing.message (typeTable rows members) message handles) root (length values)) values values′ (p .answer) (p .list);
     objectsKeep = λ {message} {objects} {objects′} {handles} r p.
-        keeps (givenOf r) (Rules.readObjects (Doing.message rows members message handles) root (length objects)) objects objects′ (p .answer) (p .list);
+        keeps (givenOf r) (Rules.readObjects (Doing.message (typeTable rows members) message handles) root (length objects)) objects objects′ (p .answer) (p .list);
     bothKeep = λ {message} {values} {values′} {objects} {objects′} {handles} r p.
-        let read = Rules.read (Doing.message rows members message handles) root (length values) (length objects) in (
+        let read = Rules.read (Doing.message (typeTable rows members) message handles) root (length values) (length objects) in (
           keeps (andThen (readingOf r) (λ n. accepted (n .values))) (valuesIn read) values values′ (rw (p .answer) (value-count read)) (p .values-list),
           keeps (andThen (readingOf r) (λ n. accepted (n .objects))) (objectsIn read) objects objects′ (rw (p .answer) (object-count read)) (p .objects-list),
         );
@@ -133,7 +133,7 @@ module _ (rows members : List ℕ) (root : ℕ) where
 
   has-value : (message : List ℕ) (handles : ℕ) (values : List ℕ) → IsReadAs rows members root message handles values → HasValue table root message handles values
   has-value message handles values i room fits =
-      let m = Doing.message rows members message handles in
+      let m = Doing.message (typeTable rows members) message handles in
       let given = Rules.readValues m root (length values) in
       let q = i values (lentAfter given values) (givenAs (lengthOf given)) (omega arith) (record { answer = given-as (lengthOf given); list = refl }) in
       values-more m root (length values) room (just-list given values (q .0) (q .1)) fits
@@ -180,14 +180,14 @@ module _ (rows members : List ℕ) (root : ℕ) where
       }
 
   written-back : (message : List ℕ) (handles : ℕ) → Octets message → (lent lent′ : List ℕ) (count : ℕ) (given : Answer (List ℕ))
-      → Rules.readValues (Doing.message rows members message handles) root (length lent) ≡ given → accepted count ≡ lengthOf given → lent′ ≡ lentAfter given lent
+      → Rules.readValues (Doing.message (typeTable rows members) message handles) root (length lent) ≡ given → accepted count ≡ lengthOf given → lent′ ≡ lentAfter given lent
       → IsWrittenAs rows members root (take count lent′) message handles
   written-back message handles oct lent lent′ count (accepted list) e n l =
       let long : length list ≡ count = cc in
       let read : take count lent′ ≡ list = rw l (take-at list (drop (length list) lent) count long) in
       rw read
       (is-written-as (two .writingGivesTheMessage message handles list oct
-      (λ room fits. values-more (Doing.message rows members message handles) root (length lent) room e fits)))
+      (λ room fits. values-more (Doing.message (typeTable rows members) message handles) root (length lent) room e fits)))
   written-back message handles oct lent lent′ count (refused f) e n l = absurd (let z : _≡_ {A = ℕ} 0 1 = cc in omega arith)
 
   pub demand3 : Demand3 rows members root

@@ -114,25 +114,25 @@ pub record Read (m : Message) (root room count : ℕ) : Type 0 where
   pub is : Rules.readValues m root room ≡ accepted given
   pub counted : count ≡ length given
 
-module _ (rows members message : List ℕ) (root handles : ℕ) (verdict : Verdict) (checked : verdictOf verdict ≡ Rules.check (Doing.message rows members message handles) root) where
+module _ (rows members message : List ℕ) (root handles : ℕ) (verdict : Verdict) (checked : verdictOf verdict ≡ Rules.check (Doing.message (typeTable rows members) message handles) root) where
   -- What the round trip promises: its answer, and both lists after it.
   abbrev Trips : (values values′ out out′ : List ℕ) → Trip → Type 0
   Trips values values′ out out′ r =
-      (r ≡ tripOf (trip (Doing.message rows members message handles) root (length values) (length out)))
-      × ((values′ ≡ lentAfter (Rules.readValues (Doing.message rows members message handles) root (length values)) values)
-      × (out′ ≡ outputAfter (trip (Doing.message rows members message handles) root (length values) (length out)) out))
+      (r ≡ tripOf (trip (Doing.message (typeTable rows members) message handles) root (length values) (length out)))
+      × ((values′ ≡ lentAfter (Rules.readValues (Doing.message (typeTable rows members) message handles) root (length values)) values)
+      × (out′ ≡ outputAfter (trip (Doing.message (typeTable rows members) message handles) root (length values) (length out)) out))
 
   pub trip-unchecked : {values out : List ℕ} {f : Fault} → verdict ≡ Checked.Refused f → Trips values values out out (Refused f)
   trip-unchecked {values} {out} {f} e =
-      let c : refused f ≡ Rules.check (Doing.message rows members message handles) root = sym (ap verdictOf e) ∙ checked in
-      (rw (← c), (rw (unread (Doing.message rows members message handles) root (length values) c), rw (← c)))
+      let c : refused f ≡ Rules.check (Doing.message (typeTable rows members) message handles) root = sym (ap verdictOf e) ∙ checked in
+      (rw (← c), (rw (unread (Doing.message (typeTable rows members) message handles) root (length values) c), rw (← c)))
 
-  module _ (values values′ : List ℕ) (g : Given) (answer : givenOf g ≡ lengthOf (Rules.readValues (Doing.message rows members message handles) root (length values)))
-      (list : values′ ≡ lentAfter (Rules.readValues (Doing.message rows members message handles) root (length values)) values) where
-    pub read-of : {count : ℕ} → g ≡ One.Accepted count → Read (Doing.message rows members message handles) root (length values) count
-    read-of {count} e = go (Rules.readValues (Doing.message rows members message handles) root (length values)) refl (sym (ap givenOf e) ∙ answer)
+  module _ (values values′ : List ℕ) (g : Given) (answer : givenOf g ≡ lengthOf (Rules.readValues (Doing.message (typeTable rows members) message handles) root (length values)))
+      (list : values′ ≡ lentAfter (Rules.readValues (Doing.message (typeTable rows members) message handles) root (length values)) values) where
+    pub read-of : {count : ℕ} → g ≡ One.Accepted count → Read (Doing.message (typeTable rows members) message handles) root (length values) count
+    read-of {count} e = go (Rules.readValues (Doing.message (typeTable rows members) message handles) root (length values)) refl (sym (ap givenOf e) ∙ answer)
       where
-        go : (r : Answer (List ℕ)) → Rules.readValues (Doing.message rows members message handles) root (length values) ≡ r → accepted count ≡ lengthOf r → Read (Doing.message rows members message handles) root (length values) count
+        go : (r : Answer (List ℕ)) → Rules.readValues (Doing.message (typeTable rows members) message handles) root (length values) ≡ r → accepted count ≡ lengthOf r → Read (Doing.message (typeTable rows members) message handles) root (length values) count
         go (accepted given) q z = record { given = given; is = q; counted = cc }
         go (refused f) q z = absurd (let y : _≡_ {A = ℕ} 0 1 = cc in omega arith)
 
@@ -144,16 +144,16 @@ module _ (rows members message : List ℕ) (root handles : ℕ) (verdict : Verdi
         let r = read-of e in
         rw (read-starts e .same)
         (Proved.demand2 (typeTable rows members) root .writingGivesTheMessage message handles (r .given) oct
-        (λ room fits. values-more (Doing.message rows members message handles) root (length values) room (r .is) fits))
+        (λ room fits. values-more (Doing.message (typeTable rows members) message handles) root (length values) room (r .is) fits))
 
     module _ (e : verdict ≡ Checked.Accepted) where
-      passed : Rules.check (Doing.message rows members message handles) root ≡ accepted tt
+      passed : Rules.check (Doing.message (typeTable rows members) message handles) root ≡ accepted tt
       passed = sym checked ∙ ap verdictOf e
 
       pub trip-unread : {out : List ℕ} {f : Fault} → g ≡ One.Refused f → Trips values values′ out out (Refused f)
       trip-unread {out} {f} q =
-          let r : Rules.readValues (Doing.message rows members message handles) root (length values) ≡ refused f =
-          go (Rules.readValues (Doing.message rows members message handles) root (length values)) (sym (ap givenOf q) ∙ answer) in
+          let r : Rules.readValues (Doing.message (typeTable rows members) message handles) root (length values) ≡ refused f =
+          go (Rules.readValues (Doing.message (typeTable rows members) message handles) root (length values)) (sym (ap givenOf q) ∙ answer) in
           (rw (passed, r), (list, rw (passed, r)))
         where
           go : (r : Answer (List ℕ)) → refused f ≡ lengthOf r → r ≡ refused f

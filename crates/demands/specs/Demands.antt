@@ -8,6 +8,7 @@ use Prim.Native.Nat.{ℕ, _+_, _≤_}
 use lib.ListN.{length, take, drop}
 use Rattle.rules.specs.Refusals.{Answer, accepted, refused, andThen}
 use Rattle.rules.specs.Bytes.{Octets}
+use Rattle.rules.specs.TypeTable.{typeTable}
 use Rattle.rules.specs.Trace.{Event, objectList, presentHandles, unknownHandles, unknownOutOfLine, Tiles, unknownLengths}
 use Rattle.rules.specs.Decode.{traceOf}
 use Rattle.rules.specs.Answers.{walk}
@@ -76,7 +77,7 @@ module _ (rows members : List ℕ) (root : ℕ) where
     pub values : List ℕ
     pub objects : List ℕ
     pub trace : List Event
-    pub traceIsTheWalks : trace ≡ traceOf (walk (Doing.message rows members message handles) root)
+    pub traceIsTheWalks : trace ≡ traceOf (walk (Doing.message (typeTable rows members) message handles) root)
     pub valuesAreRead : IsReadAs message handles values
     pub objectsAreListed : IsListedAs message handles objects
     -- "Writing what was read gives back the same bytes and handle count."

@@ -20,23 +20,23 @@ module _ (rows members : List ℕ) (root : ℕ) where
   module _ (message : List ℕ) (handles : ℕ) where
     -- reader::check
     pub record Checks (r : Verdict) : Type 0 where
-      pub answer : verdictOf r ≡ Rules.check (Doing.message rows members message handles) root
+      pub answer : verdictOf r ≡ Rules.check (Doing.message (typeTable rows members) message handles) root
 
     -- reader::read_values
     pub record ReadsValues (values values′ : List ℕ) (r : Given) : Type 0 where
-      pub answer : givenOf r ≡ lengthOf (Rules.readValues (Doing.message rows members message handles) root (length values))
-      pub list : values′ ≡ lentAfter (Rules.readValues (Doing.message rows members message handles) root (length values)) values
+      pub answer : givenOf r ≡ lengthOf (Rules.readValues (Doing.message (typeTable rows members) message handles) root (length values))
+      pub list : values′ ≡ lentAfter (Rules.readValues (Doing.message (typeTable rows members) message handles) root (length values)) values
 
     -- reader::read_objects
     pub record ReadsObjects (objects objects′ : List ℕ) (r : Given) : Type 0 where
-      pub answer : givenOf r ≡ lengthOf (Rules.readObjects (Doing.message rows members message handles) root (length objects))
-      pub list : objects′ ≡ lentAfter (Rules.readObjects (Doing.message rows members message handles) root (length objects)) objects
+      pub answer : givenOf r ≡ lengthOf (Rules.readObjects (Doing.message (typeTable rows members) message handles) root (length objects))
+      pub list : objects′ ≡ lentAfter (Rules.readObjects (Doing.message (typeTable rows members) message handles) root (length objects)) objects
 
     -- reader::read
     pub record Reads (values values′ objects objects′ : List ℕ) (r : Reading) : Type 0 where
-      pub answer : readingOf r ≡ lengthsOf (Rules.read (Doing.message rows members message handles) root (length values) (length objects))
-      pub values-list : values′ ≡ lentAfter (valuesIn (Rules.read (Doing.message rows members message handles) root (length values) (length objects))) values
-      pub objects-list : objects′ ≡ lentAfter (objectsIn (Rules.read (Doing.message rows members message handles) root (length values) (length objects))) objects
+      pub answer : readingOf r ≡ lengthsOf (Rules.read (Doing.message (typeTable rows members) message handles) root (length values) (length objects))
+      pub values-list : values′ ≡ lentAfter (valuesIn (Rules.read (Doing.message (typeTable rows members) message handles) root (length values) (length objects))) values
+      pub objects-list : objects′ ≡ lentAfter (objectsIn (Rules.read (Doing.message (typeTable rows members) message handles) root (length values) (length objects))) objects
 
   -- writer::write
   pub record Writes (values out out′ : List ℕ) (r : Written) : Type 0 where

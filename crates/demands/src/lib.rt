@@ -59,9 +59,9 @@ pub fn round_trip(
     values: &mut [u64],
     out: &mut [u8],
 ) -> Trip
-    ensures answer { λ r. ⌜ r ≡ tripOf (trip (Doing.message (now (rows .entry)) (now (members .entry)) (now (message .entry)) handles) root (length (now (values .entry))) (length (now (out .entry)))) ⌝ }
-    ensures values { λ _. ⌜ now (values .exit) ≡ lentAfter (Rules.readValues (Doing.message (now (rows .entry)) (now (members .entry)) (now (message .entry)) handles) root (length (now (values .entry)))) (now (values .entry)) ⌝ }
-    ensures output { λ _. ⌜ now (out .exit) ≡ outputAfter (trip (Doing.message (now (rows .entry)) (now (members .entry)) (now (message .entry)) handles) root (length (now (values .entry))) (length (now (out .entry)))) (now (out .entry)) ⌝ }
+    ensures answer { λ r. ⌜ r ≡ tripOf (trip (Doing.message (typeTable (now (rows .entry)) (now (members .entry))) (now (message .entry)) handles) root (length (now (values .entry))) (length (now (out .entry)))) ⌝ }
+    ensures values { λ _. ⌜ now (values .exit) ≡ lentAfter (Rules.readValues (Doing.message (typeTable (now (rows .entry)) (now (members .entry))) (now (message .entry)) handles) root (length (now (values .entry)))) (now (values .entry)) ⌝ }
+    ensures output { λ _. ⌜ now (out .exit) ≡ outputAfter (trip (Doing.message (typeTable (now (rows .entry)) (now (members .entry))) (now (message .entry)) handles) root (length (now (values .entry))) (length (now (out .entry)))) (now (out .entry)) ⌝ }
 {
     if let Verdict::Refused(f) = reader::check(rows, members, root, message, handles) {
         return Trip::Refused(f);

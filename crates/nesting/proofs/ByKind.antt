@@ -7,7 +7,7 @@ use Prim.Native.Nat.{ℕ, zero, suc, _*_, _<_}
 use native.Mathlib.Omega.{arith}
 use Rattle.rules.specs.declared.Layout.{Layout}
 use Rattle.rules.specs.Refusals.{accepted}
-use Rattle.rules.specs.TypeTable.{TypeTable, typeTable, rowCount, kindAt, aAt, bAt, cAt, typeAs, typeOf, envelopeSize}
+use Rattle.rules.specs.TypeTable.{TypeTable, eightByteEnvelopes, envelopeSize, rowCount, kindAt, aAt, bAt, cAt, typeAs, typeOf}
 use Rattle.rules.specs.Sizes.{layoutAs, layoutBelow, sizeOf}
 use Rattle.rules.specs.Sound.{soundness, rowFits}
 use Rattle.layout.proofs.Rows.{layout-step, layout-below, both, sound-rows, sound-fits, array-fits}
@@ -55,9 +55,10 @@ module _ (t : TypeTable) (row : ℕ) where
   unfolding layoutAs
   size-table e = size-kind e
 
-pub size-union : (rows members : List ℕ) (row : ℕ) → kindAt (typeTable rows members) row ≡ 10 → sizeOf (typeTable rows members) row ≡ 16
-unfolding layoutAs envelopeSize
-size-union rows members row e = size-kind (typeTable rows members) row e
+  -- In the edition with 8-byte envelopes.
+  pub size-union : t .edition ≡ eightByteEnvelopes → kindAt t row ≡ 10 → sizeOf t row ≡ 16
+  unfolding layoutAs envelopeSize
+  size-union edition e = size-kind e ∙ rw edition
 
 -- ---- what the soundness of the table says of the row
 

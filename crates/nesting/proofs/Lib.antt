@@ -1,3 +1,4 @@
+pub mod Edition
 pub mod Nested
 pub mod Halving
 pub mod Planning

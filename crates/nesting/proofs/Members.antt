@@ -9,7 +9,7 @@ use borrow.Author.Tests.{leb-true, ltb-true, eqb-true, eqb-false}
 use lib.Dec.{ltb, leb, eqb}
 use lib.ListN.{getD}
 use Rattle.rules.specs.Refusals.{if_then_else_}
-use Rattle.rules.specs.TypeTable.{TypeTable, typeTable, rowCount, memberCount, kindAt, aAt, bAt, cAt, ordinalAt, rowOf, known, contentOf}
+use Rattle.rules.specs.TypeTable.{TypeTable, rowCount, memberCount, kindAt, aAt, bAt, cAt, ordinalAt, rowOf, known, contentOf}
 use Rattle.rules.specs.Sound.{risingMembers, membersExist, rowFits}
 use Rattle.layout.proofs.Rows.{both, sound-row, OtherKind, other-kind}
 use Rattle.nesting.specs.declared.Ordinal.{Ordinal}
@@ -65,47 +65,44 @@ content-in-use t first (suc count) before ordinal {row} e q = go (eqb (ordinalAt
 -- ---- in a sound table
 
 -- What the members of a table or union are.
-pub record MembersRise (rows members : List ℕ) (first count : ℕ) : Type 0 where
+pub record MembersRise (t : TypeTable) (first count : ℕ) : Type 0 where
   pub exist : first + count ≤ 1024
-  pub all : risingMembers (typeTable rows members) first count 0 ≡ true
+  pub all : risingMembers t first count 0 ≡ true
 
-module _ {rows members : List ℕ} {first count : ℕ} (m : MembersRise rows members first count) where
-  pub members-rise : Rising members first count
-  members-rise = rise (typeTable rows members) first count 0 (m .all)
+module _ {t : TypeTable} {first count : ℕ} (m : MembersRise t first count) where
+  pub members-rise : Rising (t .members) first count
+  members-rise = rise t first count 0 (m .all)
 
   -- What the search by halves finds is what the rules say,
-  pub ordinal-content : (ordinal : ℕ) (what : Ordinal) → ordinalIs what ≡ halved members ordinal first count → ordinalIs what ≡ contentOf (typeTable rows members) first count ordinal
-  ordinal-content ordinal what e = e ∙ halved-content rows members first count ordinal (m .exist) members-rise
+  pub ordinal-content : (ordinal : ℕ) (what : Ordinal) → ordinalIs what ≡ halved (t .members) ordinal first count → ordinalIs what ≡ contentOf t first count ordinal
+  ordinal-content ordinal what e = e ∙ halved-content t first count ordinal refl (m .exist) members-rise
 
   -- and is in use.
-  pub ordinal-fits : (ordinal : ℕ) (what : Ordinal) → ordinalIs what ≡ contentOf (typeTable rows members) first count ordinal → OrdinalFits rows members what
-  ordinal-fits ordinal (Known row) w = content-in-use (typeTable rows members) first count 0 ordinal (m .all) (sym w)
+  pub ordinal-fits : (ordinal : ℕ) (what : Ordinal) → ordinalIs what ≡ contentOf t first count ordinal → OrdinalFits t what
+  ordinal-fits ordinal (Known row) w = content-in-use t first count 0 ordinal (m .all) (sym w)
   ordinal-fits ordinal Unknown w = tt
 
-module _ {rows members sizes alignments : List ℕ} {depth row : ℕ} (ready : Ready rows members sizes alignments depth row) {k a : ℕ}
-    (e : k ≡ getD rows (row * 4) 0) (f : a ≡ getD rows (row * 4 + 1) 0) where
+module _ {t : TypeTable} {sizes alignments : List ℕ} {depth row : ℕ} (ready : Ready t sizes alignments depth row) {k a : ℕ}
+    (e : k ≡ kindAt t row) (f : a ≡ aAt t row) where
   -- the row of a vector's elements, and of what a box holds
-  pub vector-in-use : k ≡ 5 → a < rowCount (typeTable rows members)
+  pub vector-in-use : k ≡ 5 → a < rowCount t
   unfolding rowFits
   vector-in-use q =
-      let t = typeTable rows members in
       let fits : (ltb (aAt t row) (rowCount t) && leb (cAt t row) 1) ≡ true = fits-kind t row (ready .sound) (ready .in-use) (sym e ∙ q) in
       rw f (ltb-true _ _ (both _ _ fits .0))
 
-  pub box-in-use : k ≡ 8 → a < rowCount (typeTable rows members)
+  pub box-in-use : k ≡ 8 → a < rowCount t
   unfolding rowFits
   box-in-use q =
-      let t = typeTable rows members in
       let fits : (((ltb (aAt t row) (rowCount t) && eqb (kindAt t (aAt t row)) 7) && eqb (bAt t row) 0) && eqb (cAt t row) 0) ≡ true =
       fits-kind t row (ready .sound) (ready .in-use) (sym e ∙ q)
       in
       rw f (ltb-true _ _ (both _ _ (both _ _ (both _ _ fits .0) .0) .0))
 
-  module _ {b : ℕ} (g : b ≡ getD rows (row * 4 + 2) 0) where
-    pub table-members : k ≡ 9 → MembersRise rows members a b
+  module _ {b : ℕ} (g : b ≡ bAt t row) where
+    pub table-members : k ≡ 9 → MembersRise t a b
     unfolding rowFits
     table-members q =
-        let t = typeTable rows members in
         let fits : ((membersExist t (aAt t row) (bAt t row) && eqb (cAt t row) 0) && risingMembers t (aAt t row) (bAt t row) 0) ≡ true =
         fits-kind t row (ready .sound) (ready .in-use) (sym e ∙ q)
         in
@@ -114,10 +111,9 @@ module _ {rows members sizes alignments : List ℕ} {depth row : ℕ} (ready : R
         rw (f, g) (record { exist = omega (arith, many, sound-row t (ready .sound) row (ready .in-use) .members); all = parts .1 })
 
     -- A union's `c` is 0 to 3 besides.
-    pub union-members : k ≡ 10 → MembersRise rows members a b × (cAt (typeTable rows members) row ≤ 3)
+    pub union-members : k ≡ 10 → MembersRise t a b × (cAt t row ≤ 3)
     unfolding rowFits
     union-members q =
-        let t = typeTable rows members in
         let fits : (((membersExist t (aAt t row) (bAt t row) && leb 1 (bAt t row)) && leb (cAt t row) 3) && risingMembers t (aAt t row) (bAt t row) 0) ≡ true =
         fits-kind t row (ready .sound) (ready .in-use) (sym e ∙ q)
         in
@@ -127,15 +123,14 @@ module _ {rows members sizes alignments : List ℕ} {depth row : ℕ} (ready : R
         (rw (f, g) (record { exist = omega (arith, many, sound-row t (ready .sound) row (ready .in-use) .members); all = parts .1 }), leb-true _ _ (forms .1))
 
 -- A record that leads out of line is one of four.
-pub union-else : {rows members sizes alignments : List ℕ} {depth row : ℕ} {k : ℕ} → Ready rows members sizes alignments depth row → k ≡ getD rows (row * 4) 0
-    → Outside (kindAt (typeTable rows members) row) → (k ≡ 5 → ⊥) → (k ≡ 8 → ⊥) → (k ≡ 9 → ⊥) → k ≡ 10
+pub union-else : {t : TypeTable} {sizes alignments : List ℕ} {depth row : ℕ} {k : ℕ} → Ready t sizes alignments depth row → k ≡ kindAt t row
+    → Outside (kindAt t row) → (k ≡ 5 → ⊥) → (k ≡ 8 → ⊥) → (k ≡ 9 → ⊥) → k ≡ 10
 unfolding rowFits
-union-else {rows} {members} {row = row} {k} ready e o n₅ n₈ n₉ = go (eqb k 10) refl
+union-else {t} {row = row} {k} ready e o n₅ n₈ n₉ = go (eqb k 10) refl
   where
     go : (b : Bool) → eqb k 10 ≡ b → k ≡ 10
     go true q = eqb-true k 10 q
     go false q =
-        let t = typeTable rows members in
         let other : OtherKind k = record {
           not-bool = λ z. o .0 (sym e ∙ z);
           not-number = λ z. o .1 (sym e ∙ z);

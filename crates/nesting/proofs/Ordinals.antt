@@ -8,7 +8,7 @@ use native.Mathlib.Omega.{arith}
 use borrow.Author.Tests.{eq-eqb, ne-eqb, eqb-true, eqb-false, ltb-true, ltb-false, le-ltb}
 use lib.Dec.{ltb, eqb}
 use lib.ListN.{getD}
-use Rattle.rules.specs.TypeTable.{TypeTable, typeTable, ordinalAt, rowOf, known, unknown, contentOf}
+use Rattle.rules.specs.TypeTable.{TypeTable, ordinalAt, rowOf, known, unknown, contentOf}
 use Rattle.nesting.specs.Ordinals.{halvedIn, halved, Rising}
 use Rattle.nesting.proofs.Halving.{halved-done, halved-here, halved-up, halved-down}
 
@@ -65,42 +65,42 @@ narrowed-whole = record {
 }
 
 -- None is left.
-narrowed-none : (rows : List ℕ) {members : List ℕ} {first count ordinal low high : ℕ} → Narrowed members first count ordinal low high → high ≤ low
-    → unknown ≡ contentOf (typeTable rows members) first count ordinal
-narrowed-none rows {members} {first} {count} {ordinal} {low} s h =
-    sym (content-none (typeTable rows members) first count ordinal (λ k i l e. apart k i l e (ltb k low) refl))
+narrowed-none : (t : TypeTable) {first count ordinal low high : ℕ} → Narrowed (t .members) first count ordinal low high → high ≤ low
+    → unknown ≡ contentOf t first count ordinal
+narrowed-none t {first} {count} {ordinal} {low} s h =
+    sym (content-none t first count ordinal (λ k i l e. apart k i l e (ltb k low) refl))
   where
-    apart : (k : ℕ) → first ≤ k → k < first + count → getD members (k * 2) 0 ≡ ordinal → (b : Bool) → ltb k low ≡ b → ⊥
+    apart : (k : ℕ) → first ≤ k → k < first + count → ordinalAt t k ≡ ordinal → (b : Bool) → ltb k low ≡ b → ⊥
     apart k i l e true q = omega (arith, s .smaller k i (ltb-true k low q))
     apart k i l e false q = let n : low ≤ k = ltb-false k low q in omega (arith, s .larger k (omega arith) l)
 
-module _ (members : List ℕ) (first count : ℕ) (rising : Rising members first count) where
-  rises : (j k : ℕ) → first ≤ j → j < k → k < first + count → getD members (j * 2) 0 < getD members (k * 2) 0
+module _ (t : TypeTable) (first count : ℕ) (rising : Rising (t .members) first count) where
+  rises : (j k : ℕ) → first ≤ j → j < k → k < first + count → ordinalAt t j < ordinalAt t k
   rises j k h i l =
       let a : first + (j - first) ≡ j = omega arith in
       let b : first + (k - first) ≡ k = omega arith in
       rw (a, b) at (rising (j - first) (k - first) (omega arith) (omega arith))
 
-  not-falls : (j k : ℕ) → first ≤ j → j ≤ k → k < first + count → getD members (j * 2) 0 ≤ getD members (k * 2) 0
+  not-falls : (j k : ℕ) → first ≤ j → j ≤ k → k < first + count → ordinalAt t j ≤ ordinalAt t k
   not-falls j k h i l = go (eqb j k) refl
     where
-      go : (b : Bool) → eqb j k ≡ b → getD members (j * 2) 0 ≤ getD members (k * 2) 0
+      go : (b : Bool) → eqb j k ≡ b → ordinalAt t j ≤ ordinalAt t k
       go true q = let e : j ≡ k = eqb-true j k q in rw e (omega arith)
       go false q =
           let n : (j ≡ k → ⊥) = eqb-false j k q in
           omega (arith, rises j k h (omega (arith, n)) l)
 
-  module _ {ordinal low high : ℕ} (s : Narrowed members first count ordinal low high) (left : low < high) where
+  module _ {ordinal low high : ℕ} (s : Narrowed (t .members) first count ordinal low high) (left : low < high) where
     -- The middle member is the one;
-    narrowed-found : (rows : List ℕ) → getD members ((low + high) / 2 * 2) 0 ≡ ordinal
-        → known (getD members ((low + high) / 2 * 2 + 1) 0) ≡ contentOf (typeTable rows members) first count ordinal
-    narrowed-found rows q =
+    narrowed-found : getD (t .members) ((low + high) / 2 * 2) 0 ≡ ordinal
+        → known (getD (t .members) ((low + high) / 2 * 2 + 1) 0) ≡ contentOf t first count ordinal
+    narrowed-found q =
         let middle : ℕ = (low + high) / 2 in
-        sym (content-first (typeTable rows members) first count ordinal middle (omega (arith, s .from)) (omega (arith, s .upto))
+        sym (content-first t first count ordinal middle (omega (arith, s .from)) (omega (arith, s .upto))
         (λ j i g z. omega (arith, rises j middle i g (omega (arith, s .upto)))) (omega arith))
 
     -- its ordinal is smaller;
-    narrowed-up : getD members ((low + high) / 2 * 2) 0 < ordinal → Narrowed members first count ordinal ((low + high) / 2 + 1) high
+    narrowed-up : getD (t .members) ((low + high) / 2 * 2) 0 < ordinal → Narrowed (t .members) first count ordinal ((low + high) / 2 + 1) high
     narrowed-up q = record {
       from = omega (arith, s .from);
       upto = s .upto;
@@ -109,7 +109,7 @@ module _ (members : List ℕ) (first count : ℕ) (rising : Rising members first
     }
 
     -- it is larger.
-    narrowed-down : (getD members ((low + high) / 2 * 2) 0 ≡ ordinal → ⊥) → ordinal ≤ getD members ((low + high) / 2 * 2) 0 → Narrowed members first count ordinal low ((low + high) / 2)
+    narrowed-down : (getD (t .members) ((low + high) / 2 * 2) 0 ≡ ordinal → ⊥) → ordinal ≤ getD (t .members) ((low + high) / 2 * 2) 0 → Narrowed (t .members) first count ordinal low ((low + high) / 2)
     narrowed-down n q = record {
       from = s .from;
       upto = omega (arith, s .upto);
@@ -117,34 +117,36 @@ module _ (members : List ℕ) (first count : ℕ) (rising : Rising members first
       larger = λ k h l. omega (arith, n, not-falls ((low + high) / 2) k (omega (arith, s .from)) h l);
     }
 
-  module _ (rows : List ℕ) (ordinal : ℕ) where
-    narrowed-halved : (steps low high : ℕ) → high - low < steps → Narrowed members first count ordinal low high
-        → halvedIn members ordinal steps low high ≡ contentOf (typeTable rows members) first count ordinal
+  module _ (ordinal : ℕ) where
+    narrowed-halved : (steps low high : ℕ) → high - low < steps → Narrowed (t .members) first count ordinal low high
+        → halvedIn (t .members) ordinal steps low high ≡ contentOf t first count ordinal
     narrowed-halved zero low high h s = absurd (omega arith)
     narrowed-halved (suc steps) low high h s =
-        go (ltb low high) (eqb (getD members ((low + high) / 2 * 2) 0) ordinal) (ltb (getD members ((low + high) / 2 * 2) 0) ordinal) refl refl refl
+        go (ltb low high) (eqb (getD (t .members) ((low + high) / 2 * 2) 0) ordinal) (ltb (getD (t .members) ((low + high) / 2 * 2) 0) ordinal) refl refl refl
         (λ l g. narrowed-halved steps ((low + high) / 2 + 1) high (omega arith) g) (λ l g. narrowed-halved steps low ((low + high) / 2) (omega arith) g)
       where
-        go : (left here smaller : Bool) → ltb low high ≡ left → eqb (getD members ((low + high) / 2 * 2) 0) ordinal ≡ here → ltb (getD members ((low + high) / 2 * 2) 0) ordinal ≡ smaller
-            → (low < high → Narrowed members first count ordinal ((low + high) / 2 + 1) high → halvedIn members ordinal steps ((low + high) / 2 + 1) high ≡ contentOf (typeTable rows members) first count ordinal)
-            → (low < high → Narrowed members first count ordinal low ((low + high) / 2) → halvedIn members ordinal steps low ((low + high) / 2) ≡ contentOf (typeTable rows members) first count ordinal)
-            → halvedIn members ordinal (suc steps) low high ≡ contentOf (typeTable rows members) first count ordinal
+        go : (left here smaller : Bool) → ltb low high ≡ left → eqb (getD (t .members) ((low + high) / 2 * 2) 0) ordinal ≡ here → ltb (getD (t .members) ((low + high) / 2 * 2) 0) ordinal ≡ smaller
+            → (low < high → Narrowed (t .members) first count ordinal ((low + high) / 2 + 1) high → halvedIn (t .members) ordinal steps ((low + high) / 2 + 1) high ≡ contentOf t first count ordinal)
+            → (low < high → Narrowed (t .members) first count ordinal low ((low + high) / 2) → halvedIn (t .members) ordinal steps low ((low + high) / 2) ≡ contentOf t first count ordinal)
+            → halvedIn (t .members) ordinal (suc steps) low high ≡ contentOf t first count ordinal
         go true true smaller l e m up down =
             let some : low < high = ltb-true low high l in
-            let is : getD members ((low + high) / 2 * 2) 0 ≡ ordinal = eqb-true _ _ e in
-            halved-here members ordinal steps low high some refl is ∙ narrowed-found s some rows is
+            let is : getD (t .members) ((low + high) / 2 * 2) 0 ≡ ordinal = eqb-true _ _ e in
+            halved-here (t .members) ordinal steps low high some refl is ∙ narrowed-found s some is
         go true false true l e m up down =
             let some : low < high = ltb-true low high l in
-            let less : getD members ((low + high) / 2 * 2) 0 < ordinal = ltb-true _ _ m in
-            halved-up members ordinal steps low high some refl (eqb-false _ _ e) less ∙ up some (narrowed-up s some less)
+            let less : getD (t .members) ((low + high) / 2 * 2) 0 < ordinal = ltb-true _ _ m in
+            halved-up (t .members) ordinal steps low high some refl (eqb-false _ _ e) less ∙ up some (narrowed-up s some less)
         go true false false l e m up down =
             let some : low < high = ltb-true low high l in
-            let least : ordinal ≤ getD members ((low + high) / 2 * 2) 0 = ltb-false _ _ m in
-            halved-down members ordinal steps low high some refl (eqb-false _ _ e) least ∙ down some (narrowed-down s some (eqb-false _ _ e) least)
+            let least : ordinal ≤ getD (t .members) ((low + high) / 2 * 2) 0 = ltb-false _ _ m in
+            halved-down (t .members) ordinal steps low high some refl (eqb-false _ _ e) least ∙ down some (narrowed-down s some (eqb-false _ _ e) least)
         go false here smaller l e m up down =
             let none : high ≤ low = ltb-false low high l in
-            halved-done members ordinal steps low high none ∙ narrowed-none rows s none
+            halved-done (t .members) ordinal steps low high none ∙ narrowed-none t s none
 
-pub halved-content : (rows members : List ℕ) (first count ordinal : ℕ) → first + count ≤ 1024 → Rising members first count → halved members ordinal first count ≡ contentOf (typeTable rows members) first count ordinal
-halved-content rows members first count ordinal few rising =
-    rw (le-ltb 1024 first (omega arith), le-ltb 1024 count (omega arith)) (narrowed-halved members first count rising rows ordinal (suc count) first (first + count) (omega arith) narrowed-whole)
+pub halved-content : (t : TypeTable) {members : List ℕ} (first count ordinal : ℕ) → t .members ≡ members → first + count ≤ 1024 → Rising members first count
+    → halved members ordinal first count ≡ contentOf t first count ordinal
+halved-content t first count ordinal e few rising =
+    rw (le-ltb 1024 first (omega arith), le-ltb 1024 count (omega arith), ← e)
+    (narrowed-halved t first count (rw (← e) at rising) ordinal (suc count) first (first + count) (omega arith) narrowed-whole)

@@ -9,7 +9,7 @@ use borrow.Author.Tests.{lt-ltb, lt-leb, leb-true, eq-eqb, ne-eqb, eqb-true, eqb
 use lib.Dec.{leb, eqb}
 use lib.ListN.{getD}
 use Rattle.rules.specs.Refusals.{accepted, if_then_else_}
-use Rattle.rules.specs.TypeTable.{TypeTable, typeTable, rowCount, kindAt, aAt, bAt, memberRows}
+use Rattle.rules.specs.TypeTable.{TypeTable, rowCount, kindAt, aAt, bAt, memberRows}
 use Rattle.rules.specs.Sizes.{Field, field, layoutOf, sizeOf, fieldsOf, fieldsSize}
 use Rattle.rules.specs.Sound.{soundness}
 use Rattle.layout.specs.Answers.{keptAlignments}
@@ -91,76 +91,73 @@ unfolding partsFrom
 some-parts widths fills zero h e = absurd (omega arith)
 some-parts widths fills (suc count) h e = let z : _≡_ {A = ℕ} 0 1 = cc in omega arith
 
-some-left : (rows list alignments : List ℕ) (row count : ℕ) → (flatFrom rows list alignments row 0 0 count ≡ [] → ⊥) → 0 < count
+some-left : (rows members alignments : List ℕ) (row count : ℕ) → (flatFrom rows members alignments row 0 0 count ≡ [] → ⊥) → 0 < count
 unfolding flatFrom
-some-left rows list alignments row zero n = absurd (n refl)
-some-left rows list alignments row (suc count) n = omega arith
+some-left rows members alignments row zero n = absurd (n refl)
+some-left rows members alignments row (suc count) n = omega arith
 
-module _ (rows list alignments : List ℕ) (row : ℕ) (sound : soundness (typeTable rows list) ≡ accepted tt) where
-  flat-of : (r : ℕ) → r < rowCount (typeTable rows list) → flatWidth rows r ≤ 8 → Flat (typeTable rows list) r (flatWidth rows r)
-  flat-of r h = go (eqb (getD rows (r * 4) 0) 1) (eqb (getD rows (r * 4) 0) 2) refl refl
+module _ (t : TypeTable) (alignments : List ℕ) (row : ℕ) (sound : soundness t ≡ accepted tt) where
+  flat-of : (r : ℕ) → r < rowCount t → flatWidth (t .rows) r ≤ 8 → Flat t r (flatWidth (t .rows) r)
+  flat-of r h = go (eqb (kindAt t r) 1) (eqb (kindAt t r) 2) refl refl
     where
-      go : (b n : Bool) → eqb (getD rows (r * 4) 0) 1 ≡ b → eqb (getD rows (r * 4) 0) 2 ≡ n → (if b then 0 else if n then getD rows (r * 4 + 1) 0 else 9) ≤ 8
-          → Flat (typeTable rows list) r (if b then 0 else if n then getD rows (r * 4 + 1) 0 else 9)
+      go : (b n : Bool) → eqb (kindAt t r) 1 ≡ b → eqb (kindAt t r) 2 ≡ n → (if b then 0 else if n then aAt t r else 9) ≤ 8
+          → Flat t r (if b then 0 else if n then aAt t r else 9)
       go true n e f l = a-bool (eqb-true _ 1 e)
-      go false true e f l = a-number (eqb-true _ 2 f) (number-width (typeTable rows list) r sound h (eqb-true _ 2 f))
+      go false true e f l = a-number (eqb-true _ 2 f) (number-width t r sound h (eqb-true _ 2 f))
       go false false e f l = absurd (omega arith)
 
-  module _ (kept : alignments ≡ keptAlignments (typeTable rows list)) (in-use : row < rowCount (typeTable rows list)) (few : row < 256) (kind : kindAt (typeTable rows list) row ≡ 7)
-      (some : 0 < bAt (typeTable rows list) row) where
-    parted : hasParts rows row ≡ true
+  module _ (kept : alignments ≡ keptAlignments t) (in-use : row < rowCount t) (few : row < 256) (kind : kindAt t row ≡ 7)
+      (some : 0 < bAt t row) where
+    parted : hasParts (t .rows) row ≡ true
     parted = rw (lt-ltb row 256 few, eq-eqb _ 7 kind, lt-ltb 0 _ some)
 
-    all-from : (left done place : ℕ) → done + left ≡ bAt (typeTable rows list) row → allFlat (flatFrom rows list alignments row done place left) ≡ true
-        → AllFlat (typeTable rows list) (fieldsLeft (typeTable rows list) (after rows list alignments row done) place) (flatFrom rows list alignments row done place left)
+    all-from : (left done place : ℕ) → done + left ≡ bAt t row → allFlat (flatFrom (t .rows) (t .members) alignments row done place left) ≡ true
+        → AllFlat t (fieldsLeft t (after (t .rows) (t .members) alignments row done) place) (flatFrom (t .rows) (t .members) alignments row done place left)
     unfolding flatFrom
-    all-from zero done place n e = rw (no-members-left (typeTable rows list) (after rows list alignments row done) place kind (omega arith)) none
+    all-from zero done place n e = rw (no-members-left t (after (t .rows) (t .members) alignments row done) place kind (omega arith)) none
     all-from (suc left) done place n e =
-        let t = typeTable rows list in
-        let l = after rows list alignments row done in
-        let part = nextPart rows list l in
-        let x = next-of rows list alignments sound kept l in-use (omega arith) place (omega arith) parted in
-        let first = first-flat (flatWidth rows part) _ _ e in
+        let l = after (t .rows) (t .members) alignments row done in
+        let part = nextPart (t .rows) (t .members) l in
+        let x = next-of t alignments sound kept l in-use (omega arith) place (omega arith) parted in
+        let first = first-flat (flatWidth (t .rows) part) _ _ e in
         let flat = flat-of part (omega (arith, x .below, in-use)) (first .0) in
-        let stop = place + widthSize (flatWidth rows part) in
-        let next = nextPlace rows list l alignments stop in
-        let fields : fieldsLeft t l place ≡ field part (next - stop) ∷ fieldsLeft t (after rows list alignments row (done + 1)) next = rw (flat-size flat) at (x .fields) in
+        let stop = place + widthSize (flatWidth (t .rows) part) in
+        let next = nextPlace (t .rows) (t .members) l alignments stop in
+        let fields : fieldsLeft t l place ≡ field part (next - stop) ∷ fieldsLeft t (after (t .rows) (t .members) alignments row (done + 1)) next = rw (flat-size flat) at (x .fields) in
         rw fields (more flat (all-from left (done + 1) next (omega arith) (first .1)))
 
-module _ {rows list sizes alignments : List ℕ} {depth row : ℕ} (ready : Ready rows list sizes alignments depth row) where
-  struct-flat : kindAt (typeTable rows list) row ≡ 7 → 0 < bAt (typeTable rows list) row → allFlat (flatFrom rows list alignments row 0 0 (bAt (typeTable rows list) row)) ≡ true
-      → FlatRow (typeTable rows list) row (flatFrom rows list alignments row 0 0 (bAt (typeTable rows list) row))
+module _ {t : TypeTable} {sizes alignments : List ℕ} {depth row : ℕ} (ready : Ready t sizes alignments depth row) where
+  struct-flat : kindAt t row ≡ 7 → 0 < bAt t row → allFlat (flatFrom (t .rows) (t .members) alignments row 0 0 (bAt t row)) ≡ true
+      → FlatRow t row (flatFrom (t .rows) (t .members) alignments row 0 0 (bAt t row))
   struct-flat kind some e =
-      let t = typeTable rows list in
       struct-row kind some
       (rw (struct-fields t row kind (members-below t row (ready .sound) (ready .in-use) kind) 0) at
-      (all-from rows list alignments row (ready .sound) (ready .alignments-kept) (ready .in-use) (row-few ready) kind some (bAt t row) 0 0 (omega arith) e))
+      (all-from t alignments row (ready .sound) (ready .alignments-kept) (ready .in-use) (row-few ready) kind some (bAt t row) 0 0 (omega arith) e))
 
-  planned-flat : (planOf rows list alignments row ≡ [] → ⊥) → FlatRow (typeTable rows list) row (planOf rows list alignments row)
-  planned-flat = go (leb 256 row) (eqb (getD rows (row * 4) 0) 1) (eqb (getD rows (row * 4) 0) 7) (leb count 16) (allFlat left) refl refl refl
+  planned-flat : (planOf (t .rows) (t .members) alignments row ≡ [] → ⊥) → FlatRow t row (planOf (t .rows) (t .members) alignments row)
+  planned-flat = go (leb 256 row) (eqb (kindAt t row) 1) (eqb (kindAt t row) 7) (leb count 16) (allFlat left) refl refl refl
     where
       count : ℕ
-      count = getD rows (row * 4 + 2) 0
+      count = bAt t row
 
       left : List Field
-      left = flatFrom rows list alignments row 0 0 count
+      left = flatFrom (t .rows) (t .members) alignments row 0 0 count
 
-      go : (past bool struct few flat : Bool) → eqb (getD rows (row * 4) 0) 1 ≡ bool → eqb (getD rows (row * 4) 0) 7 ≡ struct → allFlat left ≡ flat
+      go : (past bool struct few flat : Bool) → eqb (kindAt t row) 1 ≡ bool → eqb (kindAt t row) 7 ≡ struct → allFlat left ≡ flat
           → ((if past then [] else if bool then field 0 0 ∷ [] else if struct && few then (if flat then left else []) else []) ≡ [] → ⊥)
-          → FlatRow (typeTable rows list) row (if past then [] else if bool then field 0 0 ∷ [] else if struct && few then (if flat then left else []) else [])
+          → FlatRow t row (if past then [] else if bool then field 0 0 ∷ [] else if struct && few then (if flat then left else []) else [])
       go true bool struct few flat b s f n = absurd (n refl)
       go false true struct few flat b s f n = bool-row (eqb-true _ 1 b)
-      go false false true true true b s f n = struct-flat (eqb-true _ 7 s) (some-left rows list alignments row count n) f
+      go false false true true true b s f n = struct-flat (eqb-true _ 7 s) (some-left (t .rows) (t .members) alignments row count n) f
       go false false true true false b s f n = absurd (n refl)
       go false false true false flat b s f n = absurd (n refl)
       go false false false few flat b s f n = absurd (n refl)
 
-  pub plan-flat : {plan : Plan} → Planned plan (planOf rows list alignments row) → 0 < plan .count → FlatRow (typeTable rows list) row (partsOf plan)
+  pub plan-flat : {plan : Plan} → Planned plan (planOf (t .rows) (t .members) alignments row) → 0 < plan .count → FlatRow t row (partsOf plan)
   plan-flat {plan} p h = rw (p .same) (planned-flat (λ e. some-parts (plan .widths) (plan .fills) (plan .count) h (p .same ∙ e)))
 
-  pub flat-row-size : {parts : List Field} → FlatRow (typeTable rows list) row parts → sizeOf (typeTable rows list) row ≡ partsSize parts
+  pub flat-row-size : {parts : List Field} → FlatRow t row parts → sizeOf t row ≡ partsSize parts
   unfolding fieldsSize
-  flat-row-size (bool-row e) = size-bool (typeTable rows list) row e
+  flat-row-size (bool-row e) = size-bool t row e
   flat-row-size (struct-row kind some fs) =
-      let t = typeTable rows list in
       struct-size t row kind (members-below t row (ready .sound) (ready .in-use) kind) some ∙ all-size fs

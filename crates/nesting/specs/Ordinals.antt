@@ -2,17 +2,22 @@
 -- Assumes nothing.
 use mathlib.Core.Bool.{_||_}
 use mathlib.Core.List.{List}
+use mathlib.Core.Path.{_≡_}
 use Prim.Native.Nat.{ℕ, zero, suc, _+_, _*_, _/_, _<_}
 use lib.Dec.{ltb, eqb}
 use lib.ListN.{getD}
 use Rattle.rules.specs.Refusals.{if_then_else_}
-use Rattle.rules.specs.TypeTable.{typeTable, rowCount, Content, known, unknown}
+use Rattle.rules.specs.TypeTable.{TypeTable, rowCount, Content, known, unknown, contentOf}
 use Rattle.nesting.specs.declared.Ordinal.{Ordinal}
 use Rattle.nesting.specs.declared.Ordinal.the-variants.{Known, Unknown}
 
 abbrev pub ordinalIs : Ordinal → Content
 ordinalIs (Known row) = known row
 ordinalIs Unknown = unknown
+
+-- What an ordinal stands for by the members alone: under every type table that has them.
+abbrev pub ContentIs : (members : List ℕ) (first count ordinal : ℕ) → Ordinal → Type 0
+ContentIs members first count ordinal what = (t : TypeTable) → t .members ≡ members → ordinalIs what ≡ contentOf t first count ordinal
 
 -- Between `low` and `high`, in at most so many steps.
 unfoldable pub halvedIn : (members : List ℕ) (ordinal steps low high : ℕ) → Content
@@ -35,6 +40,6 @@ abbrev pub Rising : (members : List ℕ) (first count : ℕ) → Type 0
 Rising members first count = (i j : ℕ) → i < j → j < count → getD members ((first + i) * 2) 0 < getD members ((first + j) * 2) 0
 
 -- A known member's row is in use.
-abbrev pub OrdinalFits : (rows members : List ℕ) → Ordinal → Type 0
-OrdinalFits rows members (Known row) = row < rowCount (typeTable rows members)
-OrdinalFits rows members Unknown = Unit {0}
+abbrev pub OrdinalFits : TypeTable → Ordinal → Type 0
+OrdinalFits t (Known row) = row < rowCount t
+OrdinalFits t Unknown = Unit {0}

@@ -68,14 +68,15 @@ before-passed m root e =
 
 -- Then the message may be walked.
 walkable : (rows members bytes : List ℕ) (root handles : ℕ) {sizes alignments : List ℕ}
-    → before (message rows members bytes handles) root ≡ accepted tt → sizes ≡ keptSizes (typeTable rows members)
-    → alignments ≡ keptAlignments (typeTable rows members) → Walkable rows members bytes root handles sizes alignments
+    → before (message (typeTable rows members) bytes handles) root ≡ accepted tt → sizes ≡ keptSizes (typeTable rows members)
+    → alignments ≡ keptAlignments (typeTable rows members) → Walkable (typeTable rows members) bytes root handles sizes alignments
 walkable rows members bytes root handles e s a =
     let t = typeTable rows members in
-    let p = before-passed (message rows members bytes handles) root e in
+    let p = before-passed (message t bytes handles) root e in
     record {
       ready = record {
         sound = p .0;
+        edition = refl;
         sizes-kept = s;
         alignments-kept = a;
         depth-left = omega arith;
@@ -87,24 +88,24 @@ walkable rows members bytes root handles e s a =
 
 -- What the code tested is what the rules test.
 tested-as : (rows members bytes : List ℕ) (root handles : ℕ) {sound : Answer (Unit {0})} → sound ≡ soundness (typeTable rows members)
-    → (r : Verdict) → BeforeWalk sound rows root (length bytes) handles r → verdictOf r ≡ before (message rows members bytes handles) root
+    → (r : Verdict) → BeforeWalk sound rows root (length bytes) handles r → verdictOf r ≡ before (message (typeTable rows members) bytes handles) root
 tested-as rows members bytes root handles e r tested = tested members ∙ rw e
 
 module _ (rows members bytes : List ℕ) (root handles : ℕ) {sound : Answer (Unit {0})} (s : sound ≡ soundness (typeTable rows members))
     {r : Verdict} (tested : BeforeWalk sound rows root (length bytes) handles r) where
-  pub judge-refused : {f : Fault} → r ≡ Checked.Refused f → refused f ≡ judgedLengths (message rows members bytes handles) root
-  judge-refused e = rw (judged-before (message rows members bytes handles) root, ← tested-as rows members bytes root handles s r tested, e)
+  pub judge-refused : {f : Fault} → r ≡ Checked.Refused f → refused f ≡ judgedLengths (message (typeTable rows members) bytes handles) root
+  judge-refused e = rw (judged-before (message (typeTable rows members) bytes handles) root, ← tested-as rows members bytes root handles s r tested, e)
 
   module _ (e : r ≡ Checked.Accepted) where
     pub judge-walkable : {sizes alignments : List ℕ} → sizes ≡ keptSizes (typeTable rows members)
-        → alignments ≡ keptAlignments (typeTable rows members) → Walkable rows members bytes root handles sizes alignments
+        → alignments ≡ keptAlignments (typeTable rows members) → Walkable (typeTable rows members) bytes root handles sizes alignments
     judge-walkable = walkable rows members bytes root handles (sym (tested-as rows members bytes root handles s r tested) ∙ ap verdictOf e)
 
     pub judge-passed : {values values′ objects objects′ : List ℕ} {reading : Reading}
-        → Passed rows members bytes root handles values values′ objects objects′ reading
-        → readingOf reading ≡ judgedLengths (message rows members bytes handles) root
+        → Passed (typeTable rows members) bytes root handles values values′ objects objects′ reading
+        → readingOf reading ≡ judgedLengths (message (typeTable rows members) bytes handles) root
     judge-passed p =
-        p .answers ∙ rw (judged-before (message rows members bytes handles) root, ← tested-as rows members bytes root handles s r tested, e)
+        p .answers ∙ rw (judged-before (message (typeTable rows members) bytes handles) root, ← tested-as rows members bytes root handles s r tested, e)
 
 -- ---- a message that is accepted
 
@@ -157,8 +158,8 @@ held-lists {m} {root} h = finished-lists m (walk m root) (accepted-finished m ro
 
 -- It may be walked again.
 pub judged-walkable : (rows members bytes : List ℕ) (root handles : ℕ) {a : Reading} {lengths : Lengths} {sizes alignments : List ℕ}
-    → readingOf a ≡ judgedLengths (message rows members bytes handles) root → a ≡ Accepted lengths → sizes ≡ keptSizes (typeTable rows members)
-    → alignments ≡ keptAlignments (typeTable rows members) → Walkable rows members bytes root handles sizes alignments
+    → readingOf a ≡ judgedLengths (message (typeTable rows members) bytes handles) root → a ≡ Accepted lengths → sizes ≡ keptSizes (typeTable rows members)
+    → alignments ≡ keptAlignments (typeTable rows members) → Walkable (typeTable rows members) bytes root handles sizes alignments
 judged-walkable rows members bytes root handles {a} j e =
-    let m = message rows members bytes handles in
+    let m = message (typeTable rows members) bytes handles in
     walkable rows members bytes root handles (accepted-finished m root (as-held m root a j e .held) .0)

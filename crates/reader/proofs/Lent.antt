@@ -9,6 +9,7 @@ use lib.Seq.{sets}
 use Rattle.rules.specs.declared.Fault.{Fault}
 use Rattle.rules.specs.declared.Place.the-variants.{Amount}
 use Rattle.rules.specs.Refusals.{fault, roomTooSmall, Answer, accepted, refused, lentAfter}
+use Rattle.rules.specs.TypeTable.{TypeTable}
 use Rattle.rules.specs.Trace.{objectList}
 use Rattle.rules.specs.Decode.{Message}
 use Rattle.rules.specs.Answers as A
@@ -46,9 +47,9 @@ gives-neither values objects e q = (rw (e, q), (rw e, rw e))
 
 -- ---- what is answered of a message
 
-module _ (rows members bytes : List ℕ) (root handles : ℕ) where
+module _ (t : TypeTable) (bytes : List ℕ) (root handles : ℕ) where
   abbrev here : Message
-  here = message rows members bytes handles
+  here = message t bytes handles
 
   -- what the rules give of one that is refused,
   module _ {f : Fault} (e : judged here root ≡ refused f) where
@@ -111,7 +112,7 @@ module _ (rows members bytes : List ℕ) (root handles : ℕ) where
     lengths-held : accepted lengths ≡ accepted (record { values = length values-held; objects = length objects-held })
     lengths-held = rw (← h .values, ← h .objects)
 
-    module _ {values values′ objects objects′ : List ℕ} {r : Reading} (p : Passed rows members bytes root handles values values′ objects objects′ r) where
+    module _ {values values′ objects objects′ : List ℕ} {r : Reading} (p : Passed t bytes root handles values values′ objects objects′ r) where
       values-stored : values′ ≡ sets values 0 values-held
       values-stored = p .valued ∙ ap (sets values 0) (held-lists h .0)
 
@@ -163,7 +164,7 @@ module _ (rows members bytes : List ℕ) (root handles : ℕ) where
           gives-neither values objects (values-next (as-held here root a j e) (length values) (length objects) room short) q
 
       -- what is given
-      module _ {values values′ objects objects′ : List ℕ} {r : Reading} (p : Passed rows members bytes root handles values values′ objects objects′ r) where
+      module _ {values values′ objects objects′ : List ℕ} {r : Reading} (p : Passed t bytes root handles values values′ objects objects′ r) where
         pub values-read : lengths .values ≤ length values → Gives (A.readValues here root (length values)) values (accepted (lengths .values)) values′
         values-read room =
             let h = as-held here root a j e in

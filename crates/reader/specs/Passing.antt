@@ -8,7 +8,7 @@ use lib.ListN.{length}
 use lib.Seq.{sets}
 use Rattle.rules.specs.declared.Place.the-variants.{Byte, Amount}
 use Rattle.rules.specs.Refusals.{fault, tooManyHandles, bytesLeft, handlesLeft, Answer, accepted, require, andThen}
-use Rattle.rules.specs.TypeTable.{typeTable}
+use Rattle.rules.specs.TypeTable.{TypeTable, typeTable}
 use Rattle.rules.specs.Sound.{rootAllowed, requireRow}
 use Rattle.rules.specs.Trace.{objectList}
 use Rattle.rules.specs.Decode.{Message, traceOf}
@@ -44,22 +44,22 @@ afterWalk end length handles =
 abbrev pub start : Cursor
 start = record { next = 0; handles = 0; values = 0; objects = 0 }
 
-module _ (rows members bytes : List ℕ) (root handles : ℕ) where
+module _ (t : TypeTable) (bytes : List ℕ) (root handles : ℕ) where
   -- What a walk from the root on asks for: every test before it has passed.
   pub record Walkable (sizes alignments : List ℕ) : Type 0 where
-    pub ready : Ready rows members sizes alignments 32 root
+    pub ready : Ready t sizes alignments 32 root
     pub short : length bytes ≤ 65536
     pub few : handles ≤ 64
 
   module _ (values values′ objects objects′ : List ℕ) where
     abbrev pub PrimaryDid : Walked → Type 0
-    PrimaryDid r = Did (length bytes) handles 4 values values′ objects objects′ start r (walk (message rows members bytes handles) root)
+    PrimaryDid r = Did (length bytes) handles 4 values values′ objects objects′ start r (walk (message t bytes handles) root)
 
     -- One walk with the tests after it. What there is no room for is left out of the lists.
     pub record Passed (r : Reading) : Type 0 where
-      pub answers : readingOf r ≡ lengthsOf (listsOf (finished (message rows members bytes handles) (walk (message rows members bytes handles) root)))
-      pub valued : values′ ≡ sets values 0 (valuesOf (walk (message rows members bytes handles) root))
-      pub listed : objects′ ≡ sets objects 0 (objectList (traceOf (walk (message rows members bytes handles) root)))
+      pub answers : readingOf r ≡ lengthsOf (listsOf (finished (message t bytes handles) (walk (message t bytes handles) root)))
+      pub valued : values′ ≡ sets values 0 (valuesOf (walk (message t bytes handles) root))
+      pub listed : objects′ ≡ sets objects 0 (objectList (traceOf (walk (message t bytes handles) root)))
 
 -- Every test of the checker.
 abbrev pub judgedLengths : Message → (root : ℕ) → Answer Lengths

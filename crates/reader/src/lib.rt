@@ -5,6 +5,7 @@ ghost use mathlib.Core.Path.{_≡_};
 ghost use lib.ListN.{length};
 ghost use Rattle.rules.specs.declared.Place.the-variants.{Amount};
 ghost use Rattle.rules.specs.Refusals.{fault, lentAfter};
+ghost use Rattle.rules.specs.TypeTable.{typeTable};
 ghost use Rattle.rules.specs.Answers as Rules;
 ghost use Rattle.walk_leaves.specs.Doing as Doing;
 ghost use Rattle.reader.specs.Answers.{verdictOf, givenOf, readingOf, lengthOf, lengthsOf, valuesIn, objectsIn};
@@ -49,7 +50,7 @@ fn room_too_small(needed: usize) -> Fault
 
 // Every refusal but 22.
 pub fn check(rows: &[u32], members: &[u32], root: u32, message: &[u8], handles: u64) -> Verdict
-    ensures { λ r. ⌜ verdictOf r ≡ Rules.check (Doing.message (now (rows .entry)) (now (members .entry)) (now (message .entry)) handles) root ⌝ }
+    ensures { λ r. ⌜ verdictOf r ≡ Rules.check (Doing.message (typeTable (now (rows .entry)) (now (members .entry))) (now (message .entry)) handles) root ⌝ }
 {
     let mut sizes = [0u32; 256];
     let mut alignments = [0u32; 256];
@@ -77,8 +78,8 @@ pub fn read_values(
     handles: u64,
     values: &mut [u64],
 ) -> Given
-    ensures answer { λ r. ⌜ givenOf r ≡ lengthOf (Rules.readValues (Doing.message (now (rows .entry)) (now (members .entry)) (now (message .entry)) handles) root (length (now (values .entry)))) ⌝ }
-    ensures list { λ _. ⌜ now (values .exit) ≡ lentAfter (Rules.readValues (Doing.message (now (rows .entry)) (now (members .entry)) (now (message .entry)) handles) root (length (now (values .entry)))) (now (values .entry)) ⌝ }
+    ensures answer { λ r. ⌜ givenOf r ≡ lengthOf (Rules.readValues (Doing.message (typeTable (now (rows .entry)) (now (members .entry))) (now (message .entry)) handles) root (length (now (values .entry)))) ⌝ }
+    ensures list { λ _. ⌜ now (values .exit) ≡ lentAfter (Rules.readValues (Doing.message (typeTable (now (rows .entry)) (now (members .entry))) (now (message .entry)) handles) root (length (now (values .entry)))) (now (values .entry)) ⌝ }
 {
     let mut sizes = [0u32; 256];
     let mut alignments = [0u32; 256];
@@ -122,8 +123,8 @@ pub fn read_objects(
     handles: u64,
     objects: &mut [u32],
 ) -> Given
-    ensures answer { λ r. ⌜ givenOf r ≡ lengthOf (Rules.readObjects (Doing.message (now (rows .entry)) (now (members .entry)) (now (message .entry)) handles) root (length (now (objects .entry)))) ⌝ }
-    ensures list { λ _. ⌜ now (objects .exit) ≡ lentAfter (Rules.readObjects (Doing.message (now (rows .entry)) (now (members .entry)) (now (message .entry)) handles) root (length (now (objects .entry)))) (now (objects .entry)) ⌝ }
+    ensures answer { λ r. ⌜ givenOf r ≡ lengthOf (Rules.readObjects (Doing.message (typeTable (now (rows .entry)) (now (members .entry))) (now (message .entry)) handles) root (length (now (objects .entry)))) ⌝ }
+    ensures list { λ _. ⌜ now (objects .exit) ≡ lentAfter (Rules.readObjects (Doing.message (typeTable (now (rows .entry)) (now (members .entry))) (now (message .entry)) handles) root (length (now (objects .entry)))) (now (objects .entry)) ⌝ }
 {
     let mut sizes = [0u32; 256];
     let mut alignments = [0u32; 256];
@@ -168,9 +169,9 @@ pub fn read(
     values: &mut [u64],
     objects: &mut [u32],
 ) -> Reading
-    ensures answer { λ r. ⌜ readingOf r ≡ lengthsOf (Rules.read (Doing.message (now (rows .entry)) (now (members .entry)) (now (message .entry)) handles) root (length (now (values .entry))) (length (now (objects .entry)))) ⌝ }
-    ensures values { λ _. ⌜ now (values .exit) ≡ lentAfter (valuesIn (Rules.read (Doing.message (now (rows .entry)) (now (members .entry)) (now (message .entry)) handles) root (length (now (values .entry))) (length (now (objects .entry))))) (now (values .entry)) ⌝ }
-    ensures objects { λ _. ⌜ now (objects .exit) ≡ lentAfter (objectsIn (Rules.read (Doing.message (now (rows .entry)) (now (members .entry)) (now (message .entry)) handles) root (length (now (values .entry))) (length (now (objects .entry))))) (now (objects .entry)) ⌝ }
+    ensures answer { λ r. ⌜ readingOf r ≡ lengthsOf (Rules.read (Doing.message (typeTable (now (rows .entry)) (now (members .entry))) (now (message .entry)) handles) root (length (now (values .entry))) (length (now (objects .entry)))) ⌝ }
+    ensures values { λ _. ⌜ now (values .exit) ≡ lentAfter (valuesIn (Rules.read (Doing.message (typeTable (now (rows .entry)) (now (members .entry))) (now (message .entry)) handles) root (length (now (values .entry))) (length (now (objects .entry))))) (now (values .entry)) ⌝ }
+    ensures objects { λ _. ⌜ now (objects .exit) ≡ lentAfter (objectsIn (Rules.read (Doing.message (typeTable (now (rows .entry)) (now (members .entry))) (now (message .entry)) handles) root (length (now (values .entry))) (length (now (objects .entry))))) (now (objects .entry)) ⌝ }
 {
     let mut sizes = [0u32; 256];
     let mut alignments = [0u32; 256];

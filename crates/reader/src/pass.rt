@@ -59,8 +59,8 @@ fn primary(
     values: &mut [u64],
     objects: &mut [u32],
 ) -> Walked
-    requires { ⌜ Walkable (now rows) (now members) (now bytes) root held (now sizes) (now alignments) ⌝ }
-    ensures { λ r. ⌜ PrimaryDid (now (rows .entry)) (now (members .entry)) (now (bytes .entry)) root held (now (values .entry)) (now (values .exit)) (now (objects .entry)) (now (objects .exit)) r ⌝ }
+    requires { ⌜ Walkable (typeTable (now rows) (now members)) (now bytes) root held (now sizes) (now alignments) ⌝ }
+    ensures { λ r. ⌜ PrimaryDid (typeTable (now (rows .entry)) (now (members .entry))) (now (bytes .entry)) root held (now (values .entry)) (now (values .exit)) (now (objects .entry)) (now (objects .exit)) r ⌝ }
 {
     let start = Cursor {
         next: 0,
@@ -122,8 +122,8 @@ pub fn pass(
     values: &mut [u64],
     objects: &mut [u32],
 ) -> Reading
-    requires { ⌜ Walkable (now rows) (now members) (now bytes) root handles (now sizes) (now alignments) ⌝ }
-    ensures { λ r. ⌜ Passed (now (rows .entry)) (now (members .entry)) (now (bytes .entry)) root handles (now (values .entry)) (now (values .exit)) (now (objects .entry)) (now (objects .exit)) r ⌝ }
+    requires { ⌜ Walkable (typeTable (now rows) (now members)) (now bytes) root handles (now sizes) (now alignments) ⌝ }
+    ensures { λ r. ⌜ Passed (typeTable (now (rows .entry)) (now (members .entry))) (now (bytes .entry)) root handles (now (values .entry)) (now (values .exit)) (now (objects .entry)) (now (objects .exit)) r ⌝ }
 {
     let held = handles as usize;
     match primary(
@@ -152,7 +152,7 @@ pub fn judge(
     bytes: &[u8],
     handles: u64,
 ) -> Reading
-    ensures answer { λ r. ⌜ readingOf r ≡ judgedLengths (message (now (rows .entry)) (now (members .entry)) (now (bytes .entry)) handles) root ⌝ }
+    ensures answer { λ r. ⌜ readingOf r ≡ judgedLengths (message (typeTable (now (rows .entry)) (now (members .entry))) (now (bytes .entry)) handles) root ⌝ }
     ensures sizes { λ _. ⌜ now (sizes .exit) ≡ keptSizes (typeTable (now (rows .entry)) (now (members .entry))) ⌝ }
     ensures alignments { λ _. ⌜ now (alignments .exit) ≡ keptAlignments (typeTable (now (rows .entry)) (now (members .entry))) ⌝ }
 {

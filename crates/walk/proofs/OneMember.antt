@@ -10,7 +10,7 @@ use lib.Dec.{eqb}
 use lib.ListN.{length, getD}
 use Rattle.rules.specs.declared.Layout.{Layout}
 use Rattle.rules.specs.Bytes.{roundUp}
-use Rattle.rules.specs.TypeTable.{TypeTable, typeTable, rowCount, kindAt, aAt, bAt, rowOf, memberRows}
+use Rattle.rules.specs.TypeTable.{TypeTable, rowCount, kindAt, aAt, bAt, rowOf, memberRows}
 use Rattle.rules.specs.Sizes.{layoutOf, sizeOf, largestAlignment, fieldsFrom, fieldsOf}
 use Rattle.rules.specs.Decode as D
 use Rattle.rules.specs.Walk as W
@@ -51,50 +51,47 @@ unfolding memberRows
 one-below t row first (more h a) = h
 
 -- What the code's test says.
-pub one-member : {rows members sizes alignments : List ℕ} {depth row : ℕ} → Ready rows members sizes alignments depth row → {kind count : ℕ} (alone : Bool) → kind ≡ getD rows (row * 4) 0 → count ≡ getD rows (row * 4 + 2) 0 → ((eqb kind 7 && eqb count 1) && alone) ≡ true
-    → (kindAt (typeTable rows members) row ≡ 7) × (bAt (typeTable rows members) row ≡ 1)
+pub one-member : {t : TypeTable} {sizes alignments : List ℕ} {depth row : ℕ} → Ready t sizes alignments depth row → {kind count : ℕ} (alone : Bool) → kind ≡ kindAt t row → count ≡ bAt t row → ((eqb kind 7 && eqb count 1) && alone) ≡ true
+    → (kindAt t row ≡ 7) × (bAt t row ≡ 1)
 one-member ready {kind} {count} alone k b test =
     let both-are = both (eqb kind 7) (eqb count 1) (both (eqb kind 7 && eqb count 1) alone test .0) in
     (sym k ∙ eqb-true kind 7 (both-are .0), sym b ∙ eqb-true count 1 (both-are .1))
 
-module _ {rows members sizes alignments : List ℕ} {depth row : ℕ} (ready : Ready rows members sizes alignments depth row) (parts : hasParts rows row ≡ true)
-    (one : (kindAt (typeTable rows members) row ≡ 7) × (bAt (typeTable rows members) row ≡ 1)) {first part : ℕ} (f : first ≡ getD rows (row * 4 + 1) 0) (p : part ≡ getD members (first * 2 + 1) 0) where
-  abbrev table : TypeTable
-  table = typeTable rows members
-
-  is-part : rowOf table (aAt table row) ≡ part
+module _ {t : TypeTable} {sizes alignments : List ℕ} {depth row : ℕ} (ready : Ready t sizes alignments depth row) (parts : hasParts (t .rows) row ≡ true)
+    (one : (kindAt t row ≡ 7) × (bAt t row ≡ 1)) {first part : ℕ} (f : first ≡ aAt t row) (p : part ≡ getD (t .members) (first * 2 + 1) 0) where
+  is-part : rowOf t (aAt t row) ≡ part
   is-part = sym (p ∙ rw f)
 
-  below : AllBelow row (memberRows table (aAt table row) (bAt table row))
-  below = members-below table row (ready .sound) (ready .in-use) (one .0)
+  below : AllBelow row (memberRows t (aAt t row) (bAt t row))
+  below = members-below t row (ready .sound) (ready .in-use) (one .0)
 
   part-below : part < row
-  part-below = rw is-part at (one-below table row (aAt table row) (rw (one .1) at below))
+  part-below = rw is-part at (one-below t row (aAt t row) (rw (one .1) at below))
 
-  part-used : part < rowCount (typeTable rows members)
+  part-used : part < rowCount t
   part-used = omega (arith, part-below, ready .in-use)
 
   -- the struct's size, by that of its member
-  items-then : (at : ℕ) → itemsOf (fieldsLeft table (startOf row at) at) ≡ value part ∷ gap (fillAfter table (layoutOf table) (aAt table row)) ∷ []
-  items-then at = rw (struct-fields table row (one .0) below at, one .1, one-items table (layoutOf table) (aAt table row), is-part)
+  items-then : (at : ℕ) → itemsOf (fieldsLeft t (startOf row at) at) ≡ value part ∷ gap (fillAfter t (layoutOf t) (aAt t row)) ∷ []
+  items-then at = rw (struct-fields t row (one .0) below at, one .1, one-items t (layoutOf t) (aAt t row), is-part)
 
-  size-then : sizeOf table row ≡ sizeOf table part + fillAfter table (layoutOf table) (aAt table row)
+  size-then : sizeOf t row ≡ sizeOf t part + fillAfter t (layoutOf t) (aAt t row)
   size-then =
-      start-size table row (ready .sound) (ready .in-use) parts 0 ∙ sym (fields-size (layoutOf table) (fieldsLeft table (startOf row 0) 0))
-      ∙ ap (sizeOfItems (layoutOf table)) (items-then 0) ∙ two-size (layoutOf table) part (fillAfter table (layoutOf table) (aAt table row))
+      start-size t row (ready .sound) (ready .in-use) parts 0 ∙ sym (fields-size (layoutOf t) (fieldsLeft t (startOf row 0) 0))
+      ∙ ap (sizeOfItems (layoutOf t)) (items-then 0) ∙ two-size (layoutOf t) part (fillAfter t (layoutOf t) (aAt t row))
 
-  part-smaller : sizeOf (typeTable rows members) part ≤ sizeOf (typeTable rows members) row
+  part-smaller : sizeOf t part ≤ sizeOf t row
   part-smaller = omega (arith, size-then)
 
-  items : (at : ℕ) → itemsOf (fieldsLeft table (startOf row at) at) ≡ value part ∷ gap (sizeOf table row - sizeOf table part) ∷ []
+  items : (at : ℕ) → itemsOf (fieldsLeft t (startOf row at) at) ≡ value part ∷ gap (sizeOf t row - sizeOf t part) ∷ []
   items at =
-      let fill : fillAfter table (layoutOf table) (aAt table row) ≡ sizeOf table row - sizeOf table part = omega (arith, size-then) in
+      let fill : fillAfter t (layoutOf t) (aAt t row) ≡ sizeOf t row - sizeOf t part = omega (arith, size-then) in
       items-then at ∙ ap (λ (n : ℕ). value part ∷ gap n ∷ []) fill
 
   -- ---- what is asked for
 
-  module _ {total handles at : ℕ} {c : Cursor} (ask : Ask total handles (sizeOf (typeTable rows members) row) at c) where
-    pub member-asks : Ready rows members sizes alignments depth part × Ask total handles (sizeOf (typeTable rows members) part) at c × (part < row)
+  module _ {total handles at : ℕ} {c : Cursor} (ask : Ask total handles (sizeOf t row) at c) where
+    pub member-asks : Ready t sizes alignments depth part × Ask total handles (sizeOf t part) at c × (part < row)
     member-asks = (
       ready-at ready depth part (omega arith) part-used,
       record { short = ask .short; few = ask .few; inside = omega (arith, part-smaller, ask .inside); free = ask .free; held = ask .held; small = omega (arith, part-smaller, ask .small) },
@@ -107,36 +104,36 @@ module _ {rows members sizes alignments : List ℕ} {depth row : ℕ} (ready : R
 
   -- ---- its walk
 
-  module _ (bytes : List ℕ) (handles at : ℕ) (v v′ o o′ : List ℕ) (c : Cursor) (ask : Ask (length bytes) handles (sizeOf (typeTable rows members) row) at c) where
+  module _ (bytes : List ℕ) (handles at : ℕ) (v v′ o o′ : List ℕ) (c : Cursor) (ask : Ask (length bytes) handles (sizeOf t row) at c) where
     abbrev Left : (v″ o″ : List ℕ) (d : Cursor) → List Item → (place : ℕ) → Type 0
     Left v″ o″ d is place =
-        WorkLeft (message rows members bytes handles) (layoutOf table) (walkRow rows members bytes handles depth) (length bytes) handles (sizeOf table row)
-        (walkRow rows members bytes handles depth row at (c .next) (c .handles)) v o c v″ o″ d is place
+        WorkLeft (message t bytes handles) (layoutOf t) (walkRow t bytes handles depth) (length bytes) handles (sizeOf t row)
+        (walkRow t bytes handles depth row at (c .next) (c .handles)) v o c v″ o″ d is place
 
-    start : Left v o c (value part ∷ gap (sizeOf table row - sizeOf table part) ∷ []) at
+    start : Left v o c (value part ∷ gap (sizeOf t row - sizeOf t part) ∷ []) at
     start =
-        let m = message rows members bytes handles in
-        let fields = fieldsLeft table (startOf row at) at in
-        rw (items at) at (work-start m (layoutOf table) (walkRow rows members bytes handles depth) (length bytes) handles v o c row (itemsOf fields) at ask
+        let m = message t bytes handles in
+        let fields = fieldsLeft t (startOf row at) at in
+        rw (items at) at (work-start m (layoutOf t) (walkRow t bytes handles depth) (length bytes) handles v o c row (itemsOf fields) at ask
         (begins m (W.levels m depth) row (ready .sound) (ready .in-use) at parts)
-        (start-size table row (ready .sound) (ready .in-use) parts at ∙ sym (fields-size (layoutOf table) fields)))
+        (start-size t row (ready .sound) (ready .in-use) parts at ∙ sym (fields-size (layoutOf t) fields)))
 
-    module _ {x : Walked} (did : ValueDid rows members bytes handles depth v v′ o o′ at c part x) where
-      pub member-refused : {f : Stop} → x ≡ Refused f → ValueDid rows members bytes handles depth v v′ o o′ at c row (Refused f)
+    module _ {x : Walked} (did : ValueDid t bytes handles depth v v′ o o′ at c part x) where
+      pub member-refused : {f : Stop} → x ≡ Refused f → ValueDid t bytes handles depth v v′ o o′ at c row (Refused f)
       member-refused same = item-refused start (rw same at did)
 
       pub member-filled : {d : Cursor} → x ≡ On d → {size whole : ℕ} → size ≡ getD sizes part 0 → whole ≡ getD sizes row 0
-          → (r : Walked) → DidNeither bytes 0 (at + size) d r (λ m. D.fill m ((at + whole) - (at + size))) → ValueDid rows members bytes handles depth v v′ o o′ at c row r
+          → (r : Walked) → DidNeither bytes 0 (at + size) d r (λ m. D.fill m ((at + whole) - (at + size))) → ValueDid t bytes handles depth v v′ o o′ at c row r
       member-filled {d} same {size} {whole} s w r filled =
-          end r (rw (fill, ← (row-size ready part part-used s)) at (filled rows members v′ o′ handles (left .asks .free) (left .asks .held)))
+          end r (rw (fill, ← (row-size ready part part-used s)) at (filled t v′ o′ handles (left .asks .free) (left .asks .held)))
         where
-          left : Left v′ o′ d (gap (sizeOf table row - sizeOf table part) ∷ []) (at + sizeOf table part)
+          left : Left v′ o′ d (gap (sizeOf t row - sizeOf t part) ∷ []) (at + sizeOf t part)
           left = item-on start (rw same at did) (omega arith)
 
-          fill : (at + whole) - (at + size) ≡ sizeOf table row - sizeOf table part
+          fill : (at + whole) - (at + size) ≡ sizeOf t row - sizeOf t part
           fill = omega (arith, row-size ready part part-used s, row-size ready row (ready .in-use) w)
 
-          end : (r : Walked) → Did (length bytes) handles 0 v′ v′ o′ o′ d r (D.fill (message rows members bytes handles) (sizeOf table row - sizeOf table part) (at + sizeOf table part) (d .next) (d .handles))
-              → ValueDid rows members bytes handles depth v v′ o o′ at c row r
+          end : (r : Walked) → Did (length bytes) handles 0 v′ v′ o′ o′ d r (D.fill (message t bytes handles) (sizeOf t row - sizeOf t part) (at + sizeOf t part) (d .next) (d .handles))
+              → ValueDid t bytes handles depth v v′ o o′ at c row r
           end (On e) q = work-end (item-on left q (omega arith))
           end (Refused f) q = item-refused left q

@@ -5,11 +5,11 @@ use mathlib.Core.Path.{_≡_, refl, sym, _∙_}
 use Prim.Native.Nat.{ℕ, _+_, _-_, _*_, _≤_, _<_}
 use native.Mathlib.Omega.{arith}
 use lib.ListN.{length, getD}
-use Rattle.rules.specs.TypeTable.{typeTable, rowCount, kindAt, aAt, bAt, contentOf}
+use Rattle.rules.specs.TypeTable.{TypeTable, eightByteEnvelopes, rowCount, kindAt, aAt, bAt, cAt, contentOf}
 use Rattle.rules.specs.Sizes.{sizeOf}
 use Rattle.rules.specs.Decode as D
 use Rattle.rules.specs.Decode.{Decoded}
-use Rattle.rules.specs.Envelope.{contentOfEightBytes, decodeContent}
+use Rattle.rules.specs.Envelope.{contentOfEightBytes}
 use Rattle.rules.specs.Walk as W
 use Rattle.nesting.specs.declared.Ordinal.{Ordinal}
 use Rattle.nesting.specs.Ordinals.{ordinalIs}
@@ -35,138 +35,136 @@ use Rattle.walk_leaves.proofs.Steps.{did-more}
 use Rattle.walk_records.proofs.Counts.{vector-opens}
 
 -- No more elements than the message has bytes.
-pub elements-few : {rows members sizes alignments : List ℕ} {depth row : ℕ} → Ready rows members sizes alignments depth row → (element : ℕ) → element < rowCount (typeTable rows members)
-    → {total handles at : ℕ} {c : Cursor} (count : ℕ) → Ask total handles (count * sizeOf (typeTable rows members) element) at c → count ≤ 65536
+pub elements-few : {t : TypeTable} {sizes alignments : List ℕ} {depth row : ℕ} → Ready t sizes alignments depth row → (element : ℕ) → element < rowCount t
+    → {total handles at : ℕ} {c : Cursor} (count : ℕ) → Ask total handles (count * sizeOf t element) at c → count ≤ 65536
 elements-few ready element h count a = few-elements ready element h count (omega (arith, a .inside, a .short))
 
 -- The record's own bytes, by its kind.
-module _ (rows members : List ℕ) (row : ℕ) {k total handles at : ℕ} {c : Cursor} (e : k ≡ getD rows (row * 4) 0) (a : Ask total handles (sizeOf (typeTable rows members) row) at c) where
+module _ (t : TypeTable) (row : ℕ) {k total handles at : ℕ} {c : Cursor} (e : k ≡ kindAt t row) (a : Ask total handles (sizeOf t row) at c) where
   pub vector-record : k ≡ 5 → Ask total handles 16 at c
-  vector-record q = rw (size-vector (typeTable rows members) row (sym e ∙ q)) at a
+  vector-record q = rw (size-vector t row (sym e ∙ q)) at a
 
   pub box-record : k ≡ 8 → Ask total handles 8 at c
-  box-record q = rw (size-box (typeTable rows members) row (sym e ∙ q)) at a
+  box-record q = rw (size-box t row (sym e ∙ q)) at a
 
   pub table-record : k ≡ 9 → Ask total handles 16 at c
-  table-record q = rw (size-table (typeTable rows members) row (sym e ∙ q)) at a
+  table-record q = rw (size-table t row (sym e ∙ q)) at a
 
-  pub union-record : k ≡ 10 → Ask total handles 16 at c
-  union-record q = rw (size-union rows members row (sym e ∙ q)) at a
+  pub union-record : t .edition ≡ eightByteEnvelopes → k ≡ 10 → Ask total handles 16 at c
+  union-record edition q = rw (size-union t row edition (sym e ∙ q)) at a
 
-module _ (rows members bytes : List ℕ) (handles depth row at : ℕ) (v v′ o o′ : List ℕ) (c : Cursor) (r : Opened) {k : ℕ} (e : k ≡ getD rows (row * 4) 0) where
+module _ (t : TypeTable) (bytes : List ℕ) (handles depth row at : ℕ) (v v′ o o′ : List ℕ) (c : Cursor) (r : Opened) {k : ℕ} (e : k ≡ kindAt t row) where
   abbrev RowOpens : (need : Opening → ℕ) (left : Opening → Decoded) → Opened → Type 0
   RowOpens need left r =
-      Opens (length bytes) handles (sizeOf (typeTable rows members) row) v v′ o o′ c (walkRow rows members bytes handles depth row at (c .next) (c .handles)) need left r
+      Opens (length bytes) handles (sizeOf t row) v v′ o o′ c (walkRow t bytes handles depth row at (c .next) (c .handles)) need left r
 
   -- ---- a vector
 
-  module _ {a b form size : ℕ} (q : k ≡ 5) (f : a ≡ getD rows (row * 4 + 1) 0) (g : b ≡ getD rows (row * 4 + 2) 0) (h : form ≡ getD rows (row * 4 + 3) 0)
-      {sizes alignments : List ℕ} (ready : Ready rows members sizes alignments depth row) (kept : size ≡ getD sizes a 0) (p : CountedOpens bytes handles depth v v′ o o′ at c row size b form r) where
-    element-size : sizeOf (typeTable rows members) a ≡ size
+  module _ {a b form size : ℕ} (q : k ≡ 5) (f : a ≡ aAt t row) (g : b ≡ bAt t row) (h : form ≡ cAt t row)
+      {sizes alignments : List ℕ} (ready : Ready t sizes alignments depth row) (kept : size ≡ getD sizes a 0) (p : CountedOpens bytes handles depth v v′ o o′ at c row size b form r) where
+    element-size : sizeOf t a ≡ size
     element-size = row-size ready a (vector-in-use ready e f q) kept
 
-    vector-whole : RowOpens (λ x. x .count * sizeOf (typeTable rows members) a) (elementsOf (message rows members bytes handles) depth (sizeOf (typeTable rows members) a) a) r
+    vector-whole : RowOpens (λ x. x .count * sizeOf t a) (elementsOf (message t bytes handles) depth (sizeOf t a) a) r
     vector-whole =
-        let m = message rows members bytes handles in
-        let kind : kindAt (typeTable rows members) row ≡ 5 = sym e ∙ q in
-        rw (decode-vector m (W.levels m depth) row kind, size-vector (typeTable rows members) row kind, ← f, ← g, ← h)
-        (vector-opens bytes handles depth v v′ o o′ at c row (sizeOf (typeTable rows members) a) b form r (rw (← element-size) at p) rows members a refl)
+        let m = message t bytes handles in
+        let kind : kindAt t row ≡ 5 = sym e ∙ q in
+        rw (decode-vector m (W.levels m depth) row kind, size-vector t row kind, ← f, ← g, ← h)
+        (vector-opens bytes handles depth v v′ o o′ at c row (sizeOf t a) b form r (rw (← element-size) at p) t a refl)
 
     vector-row : {is : Opened} → r ≡ is
-        → RowOpens (λ x. x .count * sizeOf (typeTable rows members) a) (elementsOf (message rows members bytes handles) depth (sizeOf (typeTable rows members) a) a) is
+        → RowOpens (λ x. x .count * sizeOf t a) (elementsOf (message t bytes handles) depth (sizeOf t a) a) is
     vector-row z = rw z at vector-whole
 
-    pub vector-closed : {d : Cursor} → r ≡ Closed d → ValueDid rows members bytes handles depth v v′ o o′ at c row (On d)
+    pub vector-closed : {d : Cursor} → r ≡ Closed d → ValueDid t bytes handles depth v v′ o o′ at c row (On d)
     vector-closed z = vector-row z
 
-    pub vector-refused : {f : Stop} → r ≡ Opened.Refused f → ValueDid rows members bytes handles depth v v′ o o′ at c row (Refused f)
+    pub vector-refused : {f : Stop} → r ≡ Opened.Refused f → ValueDid t bytes handles depth v v′ o o′ at c row (Refused f)
     vector-refused z = vector-row z
 
-    pub vector-asks : {x : Opening} → r ≡ Open x → Ask (length bytes) handles (x .count * sizeOf (typeTable rows members) a) (x .start) (x .cursor)
+    pub vector-asks : {x : Opening} → r ≡ Open x → Ask (length bytes) handles (x .count * sizeOf t a) (x .start) (x .cursor)
     vector-asks z = vector-row z .0
 
     pub vector-done : {v″ o″ : List ℕ} {x : Opening} {w : Walked} → r ≡ Open x
-        → ElementsDid rows members bytes handles (depth - 1) v′ v″ o′ o″ (x .start) (x .cursor) a (x .count) w → ValueDid rows members bytes handles depth v v″ o o″ at c row w
+        → ElementsDid t bytes handles (depth - 1) v′ v″ o′ o″ (x .start) (x .cursor) a (x .count) w → ValueDid t bytes handles depth v v″ o o″ at c row w
     vector-done {v″} {o″} {w = w} z did = vector-row z .1 v″ o″ w did
 
   -- ---- a box
 
-  module _ {a size : ℕ} (q : k ≡ 8) (f : a ≡ getD rows (row * 4 + 1) 0) {sizes alignments : List ℕ} (ready : Ready rows members sizes alignments depth row) (kept : size ≡ getD sizes a 0)
+  module _ {a size : ℕ} (q : k ≡ 8) (f : a ≡ aAt t row) {sizes alignments : List ℕ} (ready : Ready t sizes alignments depth row) (kept : size ≡ getD sizes a 0)
       (p : BoxOpens bytes handles depth v v′ o o′ at c a size r) where
-    boxed-size : sizeOf (typeTable rows members) a ≡ size
+    boxed-size : sizeOf t a ≡ size
     boxed-size = row-size ready a (box-in-use ready e f q) kept
 
-    box-whole : RowOpens (λ x. sizeOf (typeTable rows members) a) (valueOf (message rows members bytes handles) depth a) r
+    box-whole : RowOpens (λ x. sizeOf t a) (valueOf (message t bytes handles) depth a) r
     box-whole =
-        let m = message rows members bytes handles in
-        let kind : kindAt (typeTable rows members) row ≡ 8 = sym e ∙ q in
-        rw (decode-box m (W.levels m depth) row kind, size-box (typeTable rows members) row kind, ← f, boxed-size) (p rows members boxed-size)
+        let m = message t bytes handles in
+        let kind : kindAt t row ≡ 8 = sym e ∙ q in
+        rw (decode-box m (W.levels m depth) row kind, size-box t row kind, ← f, boxed-size) (p t boxed-size)
 
-    box-row : {is : Opened} → r ≡ is → RowOpens (λ x. sizeOf (typeTable rows members) a) (valueOf (message rows members bytes handles) depth a) is
+    box-row : {is : Opened} → r ≡ is → RowOpens (λ x. sizeOf t a) (valueOf (message t bytes handles) depth a) is
     box-row z = rw z at box-whole
 
-    pub box-absent : {d : Cursor} → r ≡ Closed d → ValueDid rows members bytes handles depth v v′ o o′ at c row (On d)
+    pub box-absent : {d : Cursor} → r ≡ Closed d → ValueDid t bytes handles depth v v′ o o′ at c row (On d)
     box-absent z = box-row z
 
-    pub box-refused : {f : Stop} → r ≡ Opened.Refused f → ValueDid rows members bytes handles depth v v′ o o′ at c row (Refused f)
+    pub box-refused : {f : Stop} → r ≡ Opened.Refused f → ValueDid t bytes handles depth v v′ o o′ at c row (Refused f)
     box-refused z = box-row z
 
-    pub box-asks : {x : Opening} → r ≡ Open x → Ask (length bytes) handles (sizeOf (typeTable rows members) a) (x .start) (x .cursor)
+    pub box-asks : {x : Opening} → r ≡ Open x → Ask (length bytes) handles (sizeOf t a) (x .start) (x .cursor)
     box-asks z = box-row z .0
 
     pub box-done : {v″ o″ : List ℕ} {x : Opening} {w : Walked} → r ≡ Open x
-        → ValueDid rows members bytes handles (depth - 1) v′ v″ o′ o″ (x .start) (x .cursor) a w → ValueDid rows members bytes handles depth v v″ o o″ at c row w
+        → ValueDid t bytes handles (depth - 1) v′ v″ o′ o″ (x .start) (x .cursor) a w → ValueDid t bytes handles depth v v″ o o″ at c row w
     box-done {v″} {o″} {w = w} z did = box-row z .1 v″ o″ w did
 
   -- ---- a table
 
-  module _ (q : k ≡ 9) (p : TableOpens bytes handles depth v v′ o o′ at c row r) where
-    table-whole : RowOpens (λ x. x .count * 8) (λ x. D.elements 8 (envelopeAt rows members bytes handles (depth - 1) row (x .count)) 1 (x .count) (x .start) (x .cursor .next) (x .cursor .handles)) r
-    unfolding decodeContent
+  module _ (q : k ≡ 9) {sizes alignments : List ℕ} (ready : Ready t sizes alignments depth row) (p : TableOpens bytes handles depth v v′ o o′ at c row r) where
+    table-whole : RowOpens (λ x. x .count * 8) (λ x. D.elements 8 (envelopeAt t bytes handles (depth - 1) row (x .count)) 1 (x .count) (x .start) (x .cursor .next) (x .cursor .handles)) r
     table-whole =
-        let m = message rows members bytes handles in
-        let kind : kindAt (typeTable rows members) row ≡ 9 = sym e ∙ q in
-        rw (decode-table m (W.levels m depth) row kind, size-table (typeTable rows members) row kind)
-        (p rows members (contentOf (typeTable rows members) (aAt (typeTable rows members) row) (bAt (typeTable rows members) row)))
+        let m = message t bytes handles in
+        let kind : kindAt t row ≡ 9 = sym e ∙ q in
+        rw (decode-table m (W.levels m depth) row kind, size-table t row kind) (p t (contentOf t (aAt t row) (bAt t row)) (ready .edition))
 
     table-row : {is : Opened} → r ≡ is
-        → RowOpens (λ x. x .count * 8) (λ x. D.elements 8 (envelopeAt rows members bytes handles (depth - 1) row (x .count)) 1 (x .count) (x .start) (x .cursor .next) (x .cursor .handles)) is
+        → RowOpens (λ x. x .count * 8) (λ x. D.elements 8 (envelopeAt t bytes handles (depth - 1) row (x .count)) 1 (x .count) (x .start) (x .cursor .next) (x .cursor .handles)) is
     table-row z = rw z at table-whole
 
-    pub table-closed : {d : Cursor} → r ≡ Closed d → ValueDid rows members bytes handles depth v v′ o o′ at c row (On d)
+    pub table-closed : {d : Cursor} → r ≡ Closed d → ValueDid t bytes handles depth v v′ o o′ at c row (On d)
     table-closed z = table-row z
 
-    pub table-refused : {f : Stop} → r ≡ Opened.Refused f → ValueDid rows members bytes handles depth v v′ o o′ at c row (Refused f)
+    pub table-refused : {f : Stop} → r ≡ Opened.Refused f → ValueDid t bytes handles depth v v′ o o′ at c row (Refused f)
     table-refused z = table-row z
 
     pub table-asks : {x : Opening} → r ≡ Open x → Ask (length bytes) handles (x .count * 8) (x .start) (x .cursor)
     table-asks z = table-row z .0
 
     pub table-done : {v″ o″ : List ℕ} {x : Opening} {w : Walked} → r ≡ Open x
-        → EnvelopesDid rows members bytes handles (depth - 1) v′ v″ o′ o″ (x .start) (x .cursor) row (x .count) w → ValueDid rows members bytes handles depth v v″ o o″ at c row w
+        → EnvelopesDid t bytes handles (depth - 1) v′ v″ o′ o″ (x .start) (x .cursor) row (x .count) w → ValueDid t bytes handles depth v v″ o o″ at c row w
     table-done {v″} {o″} {w = w} z did = table-row z .1 v″ o″ w did
 
 -- ---- a union
 
-module _ (rows members bytes : List ℕ) (handles depth row at : ℕ) (v v′ o : List ℕ) (c : Cursor) (r : Member) {k a b form : ℕ}
-    (e : k ≡ getD rows (row * 4) 0) (f : a ≡ getD rows (row * 4 + 1) 0) (g : b ≡ getD rows (row * 4 + 2) 0) (h : form ≡ getD rows (row * 4 + 3) 0) (q : k ≡ 10)
-    (p : UnionOpens bytes handles depth v v′ at c members row a b form r) where
-  union-whole : OpensMember (length bytes) handles (sizeOf (typeTable rows members) row) v v′ o o c (walkRow rows members bytes handles depth row at (c .next) (c .handles))
-      (λ what d. contentOfEightBytes (message rows members bytes handles) (W.levels (message rows members bytes handles) depth) row (ordinalIs what) (at + 8) (d .next) (d .handles)) r
+module _ (t : TypeTable) (bytes : List ℕ) (handles depth row at : ℕ) (v v′ o : List ℕ) (c : Cursor) (r : Member) {k a b form : ℕ}
+    (e : k ≡ kindAt t row) (f : a ≡ aAt t row) (g : b ≡ bAt t row) (h : form ≡ cAt t row) (q : k ≡ 10)
+    {sizes alignments : List ℕ} (ready : Ready t sizes alignments depth row) (p : UnionOpens bytes handles depth v v′ at c (t .members) row a b form r) where
+  union-whole : OpensMember (length bytes) handles (sizeOf t row) v v′ o o c (walkRow t bytes handles depth row at (c .next) (c .handles))
+      (λ what d. contentOfEightBytes (message t bytes handles) (W.levels (message t bytes handles) depth) row (ordinalIs what) (at + 8) (d .next) (d .handles)) r
   union-whole =
-      let m = message rows members bytes handles in
-      let kind : kindAt (typeTable rows members) row ≡ 10 = sym e ∙ q in
-      rw (decode-union m (W.levels m depth) row kind, size-union rows members row kind, ← f, ← g, ← h) (p rows o)
+      let m = message t bytes handles in
+      let kind : kindAt t row ≡ 10 = sym e ∙ q in
+      rw (decode-union m (W.levels m depth) row kind, size-union t row (ready .edition) kind, ← f, ← g, ← h) (p t o (ready .edition) refl)
 
   union-row : {is : Member} → r ≡ is
-      → OpensMember (length bytes) handles (sizeOf (typeTable rows members) row) v v′ o o c (walkRow rows members bytes handles depth row at (c .next) (c .handles))
-      (λ what d. contentOfEightBytes (message rows members bytes handles) (W.levels (message rows members bytes handles) depth) row (ordinalIs what) (at + 8) (d .next) (d .handles)) is
+      → OpensMember (length bytes) handles (sizeOf t row) v v′ o o c (walkRow t bytes handles depth row at (c .next) (c .handles))
+      (λ what d. contentOfEightBytes (message t bytes handles) (W.levels (message t bytes handles) depth) row (ordinalIs what) (at + 8) (d .next) (d .handles)) is
   union-row z = rw z at union-whole
 
-  pub union-none : {d : Cursor} → r ≡ None d → ValueDid rows members bytes handles depth v v′ o o at c row (On d)
+  pub union-none : {d : Cursor} → r ≡ None d → ValueDid t bytes handles depth v v′ o o at c row (On d)
   union-none z = union-row z
 
-  pub union-bad : {f : Stop} → r ≡ Bad f → ValueDid rows members bytes handles depth v v′ o o at c row (Refused f)
+  pub union-bad : {f : Stop} → r ≡ Bad f → ValueDid t bytes handles depth v v′ o o at c row (Refused f)
   union-bad z = union-row z
 
   pub union-asks : {what : Ordinal} {d : Cursor} → r ≡ Some what d → Ask (length bytes) handles 16 at c → Ask (length bytes) handles 7 (at + 8) d
@@ -182,5 +180,5 @@ module _ (rows members bytes : List ℕ) (handles depth row at : ℕ) (v v′ o 
       }
 
   pub union-done : {v″ o″ : List ℕ} {what : Ordinal} {d : Cursor} {w : Walked} → r ≡ Some what d
-      → ContentDid rows members bytes handles depth v′ v″ o o″ (at + 8) d row what w → ValueDid rows members bytes handles depth v v″ o o″ at c row w
+      → ContentDid t bytes handles depth v′ v″ o o″ (at + 8) d row what w → ValueDid t bytes handles depth v v″ o o″ at c row w
   union-done {v″} {o″} {w = w} z did = union-row z .4 v″ o″ w (did-more 8 (omega arith) did)

@@ -7,7 +7,7 @@ use native.Mathlib.Omega.{arith}
 use borrow.Author.Tests.{ne-eqb}
 use lib.ListN.{length, getD}
 use Rattle.rules.specs.Refusals.{accepted}
-use Rattle.rules.specs.TypeTable.{typeTable, rowCount, aAt, bAt}
+use Rattle.rules.specs.TypeTable.{TypeTable, rowCount, aAt, bAt}
 use Rattle.rules.specs.Sizes.{Field, layoutOf, sizeOf}
 use Rattle.rules.specs.Sound.{soundness}
 use Rattle.rules.specs.Decode as D
@@ -58,15 +58,15 @@ module _ (m : Message) (deep : D.Deeper) where
 
 -- ---- the elements of a vector
 
-module _ {rows members sizes alignments : List ℕ} {depth row : ℕ} (ready : Ready rows members sizes alignments depth row) {plan : Plan} (p : Planned plan (planOf rows members alignments row)) (some : 0 < plan .count)
+module _ {t : TypeTable} {sizes alignments : List ℕ} {depth row : ℕ} (ready : Ready t sizes alignments depth row) {plan : Plan} (p : Planned plan (planOf (t .rows) (t .members) alignments row)) (some : 0 < plan .count)
     {size : ℕ} (s : size ≡ getD sizes row 0) where
-  flat : FlatRow (typeTable rows members) row (partsOf plan)
+  flat : FlatRow t row (partsOf plan)
   flat = plan-flat ready p some
 
-  sized : sizeOf (typeTable rows members) row ≡ size
+  sized : sizeOf t row ≡ size
   sized = row-size ready row (ready .in-use) s
 
-  pub planned-ask : {total handles at : ℕ} {c : Cursor} (count : ℕ) → Ask total handles (count * sizeOf (typeTable rows members) row) at c
+  pub planned-ask : {total handles at : ℕ} {c : Cursor} (count : ℕ) → Ask total handles (count * sizeOf t row) at c
       → (plan .count ≤ 16) × Runnable (partsOf plan) × (partsSize (partsOf plan) ≡ size) × Ask total 64 (count * size) at c
   planned-ask {total} {handles} {at} {c} count ask =
       let a : Ask total handles (count * size) at c = rw sized at ask in (
@@ -76,25 +76,25 @@ module _ {rows members sizes alignments : List ℕ} {depth row : ℕ} (ready : R
         record { short = a .short; few = omega arith; inside = a .inside; free = a .free; held = omega (arith, a .held, a .few); small = a .small },
       )
 
-  pub planned-done : (bytes : List ℕ) (handles at count : ℕ) (v v′ o : List ℕ) (c : Cursor) (r : Walked) → Ask (length bytes) handles (count * sizeOf (typeTable rows members) row) at c
-      → DidAsked bytes v v′ (count * size) at c r (λ m. D.elements size (λ i. partsAt (partsOf plan) m) 0 count) → ElementsDid rows members bytes handles depth v v′ o o at c row count r
+  pub planned-done : (bytes : List ℕ) (handles at count : ℕ) (v v′ o : List ℕ) (c : Cursor) (r : Walked) → Ask (length bytes) handles (count * sizeOf t row) at c
+      → DidAsked bytes v v′ (count * size) at c r (λ m. D.elements size (λ i. partsAt (partsOf plan) m) 0 count) → ElementsDid t bytes handles depth v v′ o o at c row count r
   planned-done bytes handles at count v v′ o c r ask did =
-      let m = message rows members bytes handles in
-      rw (elements-same (sizeOf (typeTable rows members) row) (row-decode m (W.levels m depth) (ready .sound) (ready .in-use) flat) 0 count at (c .next) (c .handles), sized)
-      (did rows members o handles (rw sized at ask))
+      let m = message t bytes handles in
+      rw (elements-same (sizeOf t row) (row-decode m (W.levels m depth) (ready .sound) (ready .in-use) flat) 0 count at (c .next) (c .handles), sized)
+      (did t o handles (rw sized at ask))
 
   -- A value by itself is a run of one.
-  alone : sizeOf (typeTable rows members) row ≡ 1 * sizeOf (typeTable rows members) row
+  alone : sizeOf t row ≡ 1 * sizeOf t row
   alone = omega arith
 
-  pub alone-ask : {total handles at : ℕ} {c : Cursor} → Ask total handles (sizeOf (typeTable rows members) row) at c
+  pub alone-ask : {total handles at : ℕ} {c : Cursor} → Ask total handles (sizeOf t row) at c
       → (plan .count ≤ 16) × Runnable (partsOf plan) × (partsSize (partsOf plan) ≡ size) × Ask total 64 (1 * size) at c
   alone-ask {total} {handles} {at} {c} ask = planned-ask 1 (subst (λ (s : ℕ). Ask total handles s at c) alone ask)
 
-  pub alone-done : (bytes : List ℕ) (handles at : ℕ) (v v′ o : List ℕ) (c : Cursor) (r : Walked) → Ask (length bytes) handles (sizeOf (typeTable rows members) row) at c
-      → DidAsked bytes v v′ (1 * size) at c r (λ m. D.elements size (λ i. partsAt (partsOf plan) m) 0 1) → ValueDid rows members bytes handles depth v v′ o o at c row r
+  pub alone-done : (bytes : List ℕ) (handles at : ℕ) (v v′ o : List ℕ) (c : Cursor) (r : Walked) → Ask (length bytes) handles (sizeOf t row) at c
+      → DidAsked bytes v v′ (1 * size) at c r (λ m. D.elements size (λ i. partsAt (partsOf plan) m) 0 1) → ValueDid t bytes handles depth v v′ o o at c row r
   unfolding D.elements D.sequence
   alone-done bytes handles at v v′ o c r ask did =
       let run = planned-done bytes handles at 1 v v′ o c r (subst (λ (s : ℕ). Ask (length bytes) handles s at c) alone ask) did in
-      let value = walkRow rows members bytes handles depth row at (c .next) (c .handles) in
+      let value = walkRow t bytes handles depth row at (c .next) (c .handles) in
       subst (λ (s : ℕ). Did (length bytes) handles s v v′ o o c r value) (sym alone) (rw (then-nothing value) at run)

@@ -9,6 +9,7 @@ use lib.ListN.{length, getD}
 use lib.Seq.{length-sets}
 use Rattle.rules.specs.Refusals.{lastEnvelopeZero}
 use Rattle.rules.specs.Bytes.{word}
+use Rattle.rules.specs.TypeTable.{TypeTable, aAt, bAt}
 use Rattle.rules.specs.Decode as D
 use Rattle.rules.specs.Envelope.{contentOfEightBytes}
 use Rattle.rules.specs.Walk as W
@@ -27,21 +28,21 @@ use Rattle.walk_records.proofs.Zeros.{zero-word, nonzero-word}
 use Rattle.walk_leaves.proofs.Runs.{RunLeft, run-start, run-asks, run-on, run-refused, run-end}
 
 -- The envelopes from the one after `i` on.
-abbrev pub EnvelopesLeft : (rows members bytes : List ℕ) (handles depth row count at : ℕ) (v v′ o o′ : List ℕ) (c d : Cursor) (i : ℕ) → Type 0
-EnvelopesLeft rows members bytes handles depth row count at v v′ o o′ c d i =
-    RunLeft (length bytes) handles 8 (envelopeAt rows members bytes handles depth row count) (count * 8)
-    (D.elements 8 (envelopeAt rows members bytes handles depth row count) 1 count at (c .next) (c .handles)) v v′ o o′ c d (i + 1) (count - i) (at + i * 8)
+abbrev pub EnvelopesLeft : (t : TypeTable) (bytes : List ℕ) (handles depth row count at : ℕ) (v v′ o o′ : List ℕ) (c d : Cursor) (i : ℕ) → Type 0
+EnvelopesLeft t bytes handles depth row count at v v′ o o′ c d i =
+    RunLeft (length bytes) handles 8 (envelopeAt t bytes handles depth row count) (count * 8)
+    (D.elements 8 (envelopeAt t bytes handles depth row count) 1 count at (c .next) (c .handles)) v v′ o o′ c d (i + 1) (count - i) (at + i * 8)
 
-module _ (rows members bytes : List ℕ) (handles depth row count at : ℕ) (v o : List ℕ) (c : Cursor) where
-  pub envelopes-start : Ask (length bytes) handles (count * 8) at c → EnvelopesLeft rows members bytes handles depth row count at v v o o c c 0
+module _ (t : TypeTable) (bytes : List ℕ) (handles depth row count at : ℕ) (v o : List ℕ) (c : Cursor) where
+  pub envelopes-start : Ask (length bytes) handles (count * 8) at c → EnvelopesLeft t bytes handles depth row count at v v o o c c 0
   envelopes-start a =
       let s : 0 + 1 ≡ 1 = omega arith in
       let r : count - 0 ≡ count = omega arith in
       let p : at + 0 * 8 ≡ at = omega arith in
       rw (s, r, p) (run-start 1 count at a)
 
-  module _ {v′ o′ : List ℕ} {d : Cursor} {i : ℕ} (r : EnvelopesLeft rows members bytes handles depth row count at v v′ o o′ c d i) where
-    pub envelopes-end : count ≤ i → EnvelopesDid rows members bytes handles depth v v′ o o′ at c row count (On d)
+  module _ {v′ o′ : List ℕ} {d : Cursor} {i : ℕ} (r : EnvelopesLeft t bytes handles depth row count at v v′ o o′ c d i) where
+    pub envelopes-end : count ≤ i → EnvelopesDid t bytes handles depth v v′ o o′ at c row count (On d)
     envelopes-end h = run-end r (omega arith)
 
     module _ (h : i < count) where
@@ -52,8 +53,8 @@ module _ (rows members bytes : List ℕ) (handles depth row count at : ℕ) (v o
       content-asks g = ask-gave 7 envelope-asks g (omega arith)
 
       -- One is done.
-      turn : {v″ o″ : List ℕ} {e : Cursor} → Did (length bytes) handles 8 v′ v″ o′ o″ d (On e) (envelopeAt rows members bytes handles depth row count (i + 1) (at + i * 8) (d .next) (d .handles))
-          → EnvelopesLeft rows members bytes handles depth row count at v v″ o o″ c e (i + 1)
+      turn : {v″ o″ : List ℕ} {e : Cursor} → Did (length bytes) handles 8 v′ v″ o′ o″ d (On e) (envelopeAt t bytes handles depth row count (i + 1) (at + i * 8) (d .next) (d .handles))
+          → EnvelopesLeft t bytes handles depth row count at v v″ o o″ c e (i + 1)
       turn did =
           let s : count - i - 1 ≡ count - (i + 1) = omega arith in
           let p : at + i * 8 + 8 ≡ at + (i + 1) * 8 = omega arith in
@@ -61,32 +62,32 @@ module _ (rows members bytes : List ℕ) (handles depth row count at : ℕ) (v o
 
       module _ {loaded : ℕ} (l : loaded ≡ word bytes (at + i * 8) 8) where
         pub last-absent : {w : Walked} → loaded ≡ 0 → i + 1 ≡ count → w ≡ Refused (stop lastEnvelopeZero (at + i * 8))
-            → EnvelopesDid rows members bytes handles depth v v′ o o′ at c row count w
+            → EnvelopesDid t bytes handles depth v v′ o o′ at c row count w
         unfolding D.optionalEnvelope
         last-absent z q y =
             let a = envelope-asks in
             rw y (run-refused r (omega arith) (rw (zero-word bytes (at + i * 8) 8 (a .inside) (sym l ∙ z), eq-eqb (i + 1) count q) (did-stop (omega arith))))
 
         pub one-absent : {v″ : List ℕ} {e : Cursor} → loaded ≡ 0 → (i + 1 ≡ count → ⊥) → Gave v′ v″ d e 0
-            → EnvelopesLeft rows members bytes handles depth row count at v v″ o o′ c e (i + 1)
+            → EnvelopesLeft t bytes handles depth row count at v v″ o o′ c e (i + 1)
         unfolding D.optionalEnvelope
         one-absent z q g =
             let a = envelope-asks in
             rw (g .0, g .1) (turn (rw (zero-word bytes (at + i * 8) 8 (a .inside) (sym l ∙ z), ne-eqb (i + 1) count q) (did-one 0 (omega arith) (a .free) (a .held))))
 
-        module _ {first known : ℕ} (what : Ordinal) {e : Cursor} {v₁ v″ o″ : List ℕ} {w : Walked} (z : loaded ≡ 0 → ⊥) (f : first ≡ getD rows (row * 4 + 1) 0) (k : known ≡ getD rows (row * 4 + 2) 0)
-            (m : MembersRise rows members first known) (found : ordinalIs what ≡ halved members (i + 1) first known) (g : Gave v′ v₁ d e 1) (did : ContentDid rows members bytes handles depth v₁ v″ o′ o″ (at + i * 8) e row what w) where
-          present : Did (length bytes) handles 8 v′ v″ o′ o″ d w (envelopeAt rows members bytes handles depth row count (i + 1) (at + i * 8) (d .next) (d .handles))
+        module _ {first known : ℕ} (what : Ordinal) {e : Cursor} {v₁ v″ o″ : List ℕ} {w : Walked} (z : loaded ≡ 0 → ⊥) (f : first ≡ aAt t row) (k : known ≡ bAt t row)
+            (m : MembersRise t first known) (found : ordinalIs what ≡ halved (t .members) (i + 1) first known) (g : Gave v′ v₁ d e 1) (did : ContentDid t bytes handles depth v₁ v″ o′ o″ (at + i * 8) e row what w) where
+          present : Did (length bytes) handles 8 v′ v″ o′ o″ d w (envelopeAt t bytes handles depth row count (i + 1) (at + i * 8) (d .next) (d .handles))
           unfolding D.optionalEnvelope
           present =
               let a = envelope-asks in
               rw (nonzero-word bytes (at + i * 8) 8 (a .inside) (λ s. z (l ∙ s)), ← f, ← k, ← ordinal-content m (i + 1) what found)
-              (did-gave 8 1 (λ n u. contentOfEightBytes (here rows members bytes handles depth) (W.levels (here rows members bytes handles depth) depth) row (ordinalIs what) (at + i * 8) n u) g did (omega arith))
+              (did-gave 8 1 (λ n u. contentOfEightBytes (here t bytes handles depth) (W.levels (here t bytes handles depth) depth) row (ordinalIs what) (at + i * 8) n u) g did (omega arith))
 
-          pub one-present : {f : Cursor} → w ≡ On f → EnvelopesLeft rows members bytes handles depth row count at v v″ o o″ c f (i + 1)
+          pub one-present : {f : Cursor} → w ≡ On f → EnvelopesLeft t bytes handles depth row count at v v″ o o″ c f (i + 1)
           one-present y = turn (rw y at present)
 
-          pub one-refused : {f : Stop} → w ≡ Refused f → EnvelopesDid rows members bytes handles depth v v″ o o″ at c row count (Refused f)
+          pub one-refused : {f : Stop} → w ≡ Refused f → EnvelopesDid t bytes handles depth v v″ o o″ at c row count (Refused f)
           one-refused y = run-refused r (omega arith) (rw y at present)
 
           -- The lent lists are as long as they were.

@@ -8,7 +8,7 @@ use native.Mathlib.Omega.{arith}
 use lib.ListN.{length, getD, set}
 use lib.Seq.{length-sets}
 use Rattle.rules.specs.Refusals.{accepted}
-use Rattle.rules.specs.TypeTable.{typeTable}
+use Rattle.rules.specs.TypeTable.{TypeTable}
 use Rattle.rules.specs.Sizes.{layoutOf, sizeOf}
 use Rattle.rules.specs.Sound.{soundness}
 use Rattle.rules.specs.Trace.{objectList}
@@ -35,95 +35,93 @@ use Rattle.walk.specs.Walking.{walkRow, ValueDid}
 use Rattle.walk.proofs.Starts.{begins}
 use Rattle.walk_leaves.proofs.Work.{WorkLeft, work-into, work-start, item-asks, item-on, item-refused, work-end}
 
-module _ (rows members bytes : List ℕ) (handles depth top at : ℕ) (v o : List ℕ) (c : Cursor) where
+module _ (t : TypeTable) (bytes : List ℕ) (handles depth top at : ℕ) (v o : List ℕ) (c : Cursor) where
   -- So much of the value is left to walk.
   abbrev pub ValueLeft : (v′ o′ : List ℕ) (d : Cursor) → List Item → (place : ℕ) → Type 0
   ValueLeft v′ o′ d is place =
-      WorkLeft (message rows members bytes handles) (layoutOf (typeTable rows members)) (walkRow rows members bytes handles depth)
-      (length bytes) handles (sizeOf (typeTable rows members) top) (walkRow rows members bytes handles depth top at (c .next) (c .handles)) v o c v′ o′ d is place
+      WorkLeft (message t bytes handles) (layoutOf t) (walkRow t bytes handles depth)
+      (length bytes) handles (sizeOf t top) (walkRow t bytes handles depth top at (c .next) (c .handles)) v o c v′ o′ d is place
 
-  bounded : (v′ o′ : List ℕ) (d : Cursor) → Bounded rows members (ValueLeft v′ o′ d)
+  bounded : (v′ o′ : List ℕ) (d : Cursor) → Bounded t (ValueLeft v′ o′ d)
   bounded v′ o′ d is place w = omega (arith, w .asks .inside, w .asks .short)
 
-  opens : soundness (typeTable rows members) ≡ accepted tt → (v′ o′ : List ℕ) (d : Cursor) → Opens rows members (ValueLeft v′ o′ d)
+  opens : soundness t ≡ accepted tt → (v′ o′ : List ℕ) (d : Cursor) → Opens t (ValueLeft v′ o′ d)
   opens sound v′ o′ d row rest place parts used w =
-      let t = typeTable rows members in
-      let m = message rows members bytes handles in
+      let m = message t bytes handles in
       let fields = fieldsLeft t (startOf row place) place in
       work-into (itemsOf fields) w (begins m (W.levels m depth) row sound used place parts) (start-size t row sound used parts place ∙ sym (fields-size (layoutOf t) fields))
 
   -- What the loop keeps.
   pub record Walking (none : Level) (alignments v′ o′ : List ℕ) (kept : List Level) (around : ℕ) (level : Level) (due : Bool) (place : ℕ) (d : Cursor) : Type 0 where
     pub lengths : (length v′ ≡ length v) × (length o′ ≡ length o)
-    pub going : Going none rows members alignments top (ValueLeft v′ o′ d) kept around level due place
+    pub going : Going none t alignments top (ValueLeft v′ o′ d) kept around level due place
 
-module _ {rows members sizes alignments bytes : List ℕ} {handles depth top at : ℕ} {v o : List ℕ} {c : Cursor} (ready : Ready rows members sizes alignments depth top) where
-  pub walking-start : (none : Level) (kept : List Level) → length kept ≡ 8 → hasParts rows top ≡ true → Ask (length bytes) handles (sizeOf (typeTable rows members) top) at c
-      → Walking rows members bytes handles depth top at v o c none alignments v o kept 0 (startOf top at) false at c
+module _ {t : TypeTable} {sizes alignments bytes : List ℕ} {handles depth top at : ℕ} {v o : List ℕ} {c : Cursor} (ready : Ready t sizes alignments depth top) where
+  pub walking-start : (none : Level) (kept : List Level) → length kept ≡ 8 → hasParts (t .rows) top ≡ true → Ask (length bytes) handles (sizeOf t top) at c
+      → Walking t bytes handles depth top at v o c none alignments v o kept 0 (startOf top at) false at c
   walking-start none kept h parts a =
-      let t = typeTable rows members in
-      let m = message rows members bytes handles in
+      let m = message t bytes handles in
       let fields = fieldsLeft t (startOf top at) at in
       record {
         lengths = (refl, refl);
-        going = Nested.going-start ready (ValueLeft rows members bytes handles depth top at v o c v o c) none kept h parts
-            (work-start m (layoutOf t) (walkRow rows members bytes handles depth) (length bytes) handles v o c top (itemsOf fields) at a
+        going = Nested.going-start ready (ValueLeft t bytes handles depth top at v o c v o c) none kept h parts
+            (work-start m (layoutOf t) (walkRow t bytes handles depth) (length bytes) handles v o c top (itemsOf fields) at a
             (begins m (W.levels m depth) top (ready .sound) (ready .in-use) at parts) (start-size t top (ready .sound) (ready .in-use) parts at ∙ sym (fields-size (layoutOf t) fields)));
       }
 
   -- ---- the turns
 
   module _ {none : Level} {v′ o′ : List ℕ} {kept : List Level} {around : ℕ} {level : Level} {due : Bool} {place : ℕ} {d : Cursor}
-      (w : Walking rows members bytes handles depth top at v o c none alignments v′ o′ kept around level due place d) where
-    short : Bounded rows members (ValueLeft rows members bytes handles depth top at v o c v′ o′ d)
-    short = bounded rows members bytes handles depth top at v o c v′ o′ d
+      (w : Walking t bytes handles depth top at v o c none alignments v′ o′ kept around level due place d) where
+    short : Bounded t (ValueLeft t bytes handles depth top at v o c v′ o′ d)
+    short = bounded t bytes handles depth top at v o c v′ o′ d
 
     pub state-known : Known top level place
     state-known = Nested.state-known ready short (w .going)
 
     filled : (next : ℕ) {x r : Walked} → DidNeither bytes 0 place d x (λ m. D.fill m (next - place)) → x ≡ r
-        → Did (length bytes) handles 0 v′ v′ o′ o′ d r (D.fill (message rows members bytes handles) (next - place) place (d .next) (d .handles))
-    filled next did same = rw same at (did rows members v′ o′ handles (w .going .work .asks .free) (w .going .work .asks .held))
+        → Did (length bytes) handles 0 v′ v′ o′ o′ d r (D.fill (message t bytes handles) (next - place) place (d .next) (d .handles))
+    filled next did same = rw same at (did t v′ o′ handles (w .going .work .asks .free) (w .going .work .asks .held))
 
-    module _ {step : Step} (e : step ≡ nextStep rows members level alignments due place around) where
-      is : {s : Step} → step ≡ s → Stepped rows members level alignments place around due s
+    module _ {step : Step} (e : step ≡ nextStep (t .rows) (t .members) level alignments due place around) where
+      is : {s : Step} → step ≡ s → Stepped (t .rows) (t .members) level alignments place around due s
       is q = Nested.step-of ready short (w .going) e q
 
       pub turn-fill : {next : ℕ} → step ≡ Fill next → (place ≤ next) × (next ≤ 65536)
       turn-fill q = let fill = Nested.turn-fill ready short (is q) (w .going) in (fill .0, fill .1)
 
       pub turn-filled : {next : ℕ} → step ≡ Fill next → {x : Walked} {d′ : Cursor} → DidNeither bytes 0 place d x (λ m. D.fill m (next - place)) → x ≡ On d′
-          → Walking rows members bytes handles depth top at v o c none alignments v′ o′ kept around (advanced level) false next d′ × (fuel rows (advanced level) false next around < fuel rows level due place around)
+          → Walking t bytes handles depth top at v o c none alignments v′ o′ kept around (advanced level) false next d′ × (fuel (t .rows) (advanced level) false next around < fuel (t .rows) level due place around)
       turn-filled {next} q {d′ = d′} did same =
           let fill = Nested.turn-fill ready short (is q) (w .going) in
           let on : place + (next - place) ≡ next = omega (arith, fill .0) in
           let left = item-on (fill .2) (filled next did same) (omega arith) in
-          let turn = Nested.turn-filled ready short (is q) (w .going) (ValueLeft rows members bytes handles depth top at v o c v′ o′ d′) (rw on at left) in
+          let turn = Nested.turn-filled ready short (is q) (w .going) (ValueLeft t bytes handles depth top at v o c v′ o′ d′) (rw on at left) in
           (record { lengths = w .lengths; going = turn .0 }, turn .1)
 
       pub turn-fill-refused : {next : ℕ} → step ≡ Fill next → {x : Walked} {f : Stop} → DidNeither bytes 0 place d x (λ m. D.fill m (next - place)) → x ≡ Refused f
-          → ValueDid rows members bytes handles depth v v′ o o′ at c top (Refused f)
+          → ValueDid t bytes handles depth v v′ o o′ at c top (Refused f)
       turn-fill-refused {next} q did same = item-refused (Nested.turn-fill ready short (is q) (w .going) .2) (filled next did same)
 
       pub turn-into : {part : ℕ} → step ≡ Into part
-          → Walking rows members bytes handles depth top at v o c none alignments v′ o′ (set kept around level) (around + 1) (startOf part place) due place d
-          × (fuel rows (startOf part place) due place (around + 1) < fuel rows level due place around) × (around < 8)
+          → Walking t bytes handles depth top at v o c none alignments v′ o′ (set kept around level) (around + 1) (startOf part place) due place d
+          × (fuel (t .rows) (startOf part place) due place (around + 1) < fuel (t .rows) level due place around) × (around < 8)
       turn-into q =
-          let turn = Nested.turn-into ready short (is q) (w .going) (opens rows members bytes handles depth top at v o c (ready .sound) v′ o′ d) in
+          let turn = Nested.turn-into ready short (is q) (w .going) (opens t bytes handles depth top at v o c (ready .sound) v′ o′ d) in
           (record { lengths = w .lengths; going = turn .0 }, turn .1, turn .2)
 
-      pub turn-call : {part : ℕ} → step ≡ Call part → Ready rows members sizes alignments depth part × Ask (length bytes) handles (sizeOf (typeTable rows members) part) place d × (part < top)
+      pub turn-call : {part : ℕ} → step ≡ Call part → Ready t sizes alignments depth part × Ask (length bytes) handles (sizeOf t part) place d × (part < top)
       turn-call q =
           let call = Nested.turn-call ready short (is q) (w .going) in
           (call .0, item-asks (call .2), call .1)
 
-      pub turn-called : {part : ℕ} → step ≡ Call part → {v″ o″ : List ℕ} {x : Walked} {d′ : Cursor} {size : ℕ} → ValueDid rows members bytes handles depth v′ v″ o′ o″ place d part x → x ≡ On d′ → size ≡ getD sizes part 0
-          → Walking rows members bytes handles depth top at v o c none alignments v″ o″ kept around level true (place + size) d′ × (fuel rows level true (place + size) around < fuel rows level due place around)
+      pub turn-called : {part : ℕ} → step ≡ Call part → {v″ o″ : List ℕ} {x : Walked} {d′ : Cursor} {size : ℕ} → ValueDid t bytes handles depth v′ v″ o′ o″ place d part x → x ≡ On d′ → size ≡ getD sizes part 0
+          → Walking t bytes handles depth top at v o c none alignments v″ o″ kept around level true (place + size) d′ × (fuel (t .rows) level true (place + size) around < fuel (t .rows) level due place around)
       turn-called {part} q {v″} {o″} {d′ = d′} did same size =
           let call = Nested.turn-call ready short (is q) (w .going) in
-          let on : ValueDid rows members bytes handles depth v′ v″ o′ o″ place d part (On d′) = rw same at did in
-          let turn = Nested.turn-called ready short (is q) (w .going) size (ValueLeft rows members bytes handles depth top at v o c v″ o″ d′) (bounded rows members bytes handles depth top at v o c v″ o″ d′) (item-on (call .2) on (omega arith)) in
-          let walked = walkRow rows members bytes handles depth part place (d .next) (d .handles) in (
+          let on : ValueDid t bytes handles depth v′ v″ o′ o″ place d part (On d′) = rw same at did in
+          let turn = Nested.turn-called ready short (is q) (w .going) size (ValueLeft t bytes handles depth top at v o c v″ o″ d′) (bounded t bytes handles depth top at v o c v″ o″ d′) (item-on (call .2) on (omega arith)) in
+          let walked = walkRow t bytes handles depth part place (d .next) (d .handles) in (
             record {
               lengths = (ap length (on .valued) ∙ length-sets v′ (d .values) (valuesOf walked) ∙ w .lengths .0, ap length (on .listed) ∙ length-sets o′ (d .objects) (objectList (D.traceOf walked)) ∙ w .lengths .1);
               going = turn .0;
@@ -131,16 +129,16 @@ module _ {rows members sizes alignments bytes : List ℕ} {handles depth top at 
             turn .1,
           )
 
-      pub turn-call-refused : {part : ℕ} → step ≡ Call part → {v″ o″ : List ℕ} {x : Walked} {f : Stop} → ValueDid rows members bytes handles depth v′ v″ o′ o″ place d part x → x ≡ Refused f
-          → ValueDid rows members bytes handles depth v v″ o o″ at c top (Refused f)
+      pub turn-call-refused : {part : ℕ} → step ≡ Call part → {v″ o″ : List ℕ} {x : Walked} {f : Stop} → ValueDid t bytes handles depth v′ v″ o′ o″ place d part x → x ≡ Refused f
+          → ValueDid t bytes handles depth v v″ o o″ at c top (Refused f)
       turn-call-refused q did same = item-refused (Nested.turn-call ready short (is q) (w .going) .2) (rw same at did)
 
       pub turn-out : step ≡ Out
-          → Walking rows members bytes handles depth top at v o c none alignments v′ o′ kept (around - 1) (getD kept (around - 1) none) true place d
-          × (fuel rows (getD kept (around - 1) none) true place (around - 1) < fuel rows level due place around) × (0 < around)
+          → Walking t bytes handles depth top at v o c none alignments v′ o′ kept (around - 1) (getD kept (around - 1) none) true place d
+          × (fuel (t .rows) (getD kept (around - 1) none) true place (around - 1) < fuel (t .rows) level due place around) × (0 < around)
       turn-out q =
           let turn = Nested.turn-out ready short (is q) (w .going) in
           (record { lengths = w .lengths; going = turn .0 }, turn .1, turn .2)
 
-      pub turn-done : step ≡ Done → ValueDid rows members bytes handles depth v v′ o o′ at c top (On d)
+      pub turn-done : step ≡ Done → ValueDid t bytes handles depth v v′ o o′ at c top (On d)
       turn-done q = work-end (Nested.turn-done ready short (is q) (w .going))

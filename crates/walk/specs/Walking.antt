@@ -4,7 +4,7 @@ use mathlib.Core.List.{List}
 use Prim.Native.Nat.{ℕ, _*_}
 use lib.Dec.{eqb}
 use lib.ListN.{length}
-use Rattle.rules.specs.TypeTable.{typeTable, aAt, bAt, contentOf}
+use Rattle.rules.specs.TypeTable.{TypeTable, aAt, bAt, contentOf}
 use Rattle.rules.specs.Sizes.{sizeOf}
 use Rattle.rules.specs.Decode as D
 use Rattle.rules.specs.Decode.{Message, Decoder}
@@ -16,9 +16,9 @@ use Rattle.walk_leaves.specs.declared.cursor.Cursor.{Cursor}
 use Rattle.walk_leaves.specs.declared.cursor.Walked.{Walked}
 use Rattle.walk_leaves.specs.Doing.{message, Did}
 
-module _ (rows members bytes : List ℕ) (handles depth : ℕ) where
+module _ (t : TypeTable) (bytes : List ℕ) (handles depth : ℕ) where
   abbrev pub here : Message
-  here = message rows members bytes handles
+  here = message t bytes handles
 
   abbrev pub walkRow : (row : ℕ) → Decoder
   walkRow row = W.decodeRow here (W.levels here depth) row
@@ -27,17 +27,17 @@ module _ (rows members bytes : List ℕ) (handles depth : ℕ) where
   abbrev pub envelopeAt : (row count ordinal : ℕ) → Decoder
   envelopeAt row count ordinal =
       D.optionalEnvelope here 8 (eqb ordinal count)
-      (contentOfEightBytes here (W.levels here depth) row (contentOf (typeTable rows members) (aAt (typeTable rows members) row) (bAt (typeTable rows members) row) ordinal))
+      (contentOfEightBytes here (W.levels here depth) row (contentOf t (aAt t row) (bAt t row) ordinal))
 
   module _ (values values′ objects objects′ : List ℕ) (at : ℕ) (c : Cursor) where
     abbrev pub ValueDid : (row : ℕ) → Walked → Type 0
     ValueDid row r =
-        Did (length bytes) handles (sizeOf (typeTable rows members) row) values values′ objects objects′ c r (walkRow row at (c .next) (c .handles))
+        Did (length bytes) handles (sizeOf t row) values values′ objects objects′ c r (walkRow row at (c .next) (c .handles))
 
     abbrev pub ElementsDid : (row count : ℕ) → Walked → Type 0
     ElementsDid row count r =
-        Did (length bytes) handles (count * sizeOf (typeTable rows members) row) values values′ objects objects′ c r
-        (D.elements (sizeOf (typeTable rows members) row) (λ i. walkRow row) 0 count at (c .next) (c .handles))
+        Did (length bytes) handles (count * sizeOf t row) values values′ objects objects′ c r
+        (D.elements (sizeOf t row) (λ i. walkRow row) 0 count at (c .next) (c .handles))
 
     abbrev pub EnvelopesDid : (row count : ℕ) → Walked → Type 0
     EnvelopesDid row count r =

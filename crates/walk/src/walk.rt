@@ -55,9 +55,9 @@ pub fn value(
     given: usize,
     listed: usize,
 ) -> Walked
-    requires { ⌜ Ready (now rows) (now members) (now sizes) (now alignments) depth row
+    requires { ⌜ Ready (typeTable (now rows) (now members)) (now sizes) (now alignments) depth row
         × Ask (length (now bytes)) held (sizeOf (typeTable (now rows) (now members)) row) at (cursorAt next handles given listed) ⌝ }
-    ensures { λ r. ⌜ ValueDid (now (rows .entry)) (now (members .entry)) (now (bytes .entry)) held depth (now (values .entry)) (now (values .exit)) (now (objects .entry)) (now (objects .exit)) at (cursorAt next handles given listed) row r ⌝ }
+    ensures { λ r. ⌜ ValueDid (typeTable (now (rows .entry)) (now (members .entry))) (now (bytes .entry)) held depth (now (values .entry)) (now (values .exit)) (now (objects .entry)) (now (objects .exit)) at (cursorAt next handles given listed) row r ⌝ }
 {
     let c = Cursor {
         next,
@@ -149,8 +149,8 @@ fn elements(
     at: usize,
     c: Cursor,
 ) -> Walked
-    requires { ⌜ Ready (now rows) (now members) (now sizes) (now alignments) depth row × Ask (length (now bytes)) held (count * sizeOf (typeTable (now rows) (now members)) row) at c ⌝ }
-    ensures { λ r. ⌜ ElementsDid (now (rows .entry)) (now (members .entry)) (now (bytes .entry)) held depth (now (values .entry)) (now (values .exit)) (now (objects .entry)) (now (objects .exit)) at c row count r ⌝ }
+    requires { ⌜ Ready (typeTable (now rows) (now members)) (now sizes) (now alignments) depth row × Ask (length (now bytes)) held (count * sizeOf (typeTable (now rows) (now members)) row) at c ⌝ }
+    ensures { λ r. ⌜ ElementsDid (typeTable (now (rows .entry)) (now (members .entry))) (now (bytes .entry)) held depth (now (values .entry)) (now (values .exit)) (now (objects .entry)) (now (objects .exit)) at c row count r ⌝ }
 {
     let kind = words::number_at(rows, row * 4);
     if kind == 2 {
@@ -211,9 +211,9 @@ fn composite(
     at: usize,
     c: Cursor,
 ) -> Walked
-    requires { ⌜ Ready (now rows) (now members) (now sizes) (now alignments) depth row × (hasParts (now rows) row ≡ true)
+    requires { ⌜ Ready (typeTable (now rows) (now members)) (now sizes) (now alignments) depth row × (hasParts (now rows) row ≡ true)
         × Ask (length (now bytes)) held (sizeOf (typeTable (now rows) (now members)) row) at c ⌝ }
-    ensures { λ r. ⌜ ValueDid (now (rows .entry)) (now (members .entry)) (now (bytes .entry)) held depth (now (values .entry)) (now (values .exit)) (now (objects .entry)) (now (objects .exit)) at c row r ⌝ }
+    ensures { λ r. ⌜ ValueDid (typeTable (now (rows .entry)) (now (members .entry))) (now (bytes .entry)) held depth (now (values .entry)) (now (values .exit)) (now (objects .entry)) (now (objects .exit)) at c row r ⌝ }
 {
     // one of bools and numbers alone goes by a plan, which can be only where its first member is one of them
     let first = words::number_at(rows, row * 4 + 1) as usize;
@@ -348,9 +348,9 @@ fn out_of_line(
     at: usize,
     c: Cursor,
 ) -> Walked
-    requires { ⌜ Ready (now rows) (now members) (now sizes) (now alignments) depth row × Outside (kindAt (typeTable (now rows) (now members)) row)
+    requires { ⌜ Ready (typeTable (now rows) (now members)) (now sizes) (now alignments) depth row × Outside (kindAt (typeTable (now rows) (now members)) row)
         × Ask (length (now bytes)) held (sizeOf (typeTable (now rows) (now members)) row) at c ⌝ }
-    ensures { λ r. ⌜ ValueDid (now (rows .entry)) (now (members .entry)) (now (bytes .entry)) held depth (now (values .entry)) (now (values .exit)) (now (objects .entry)) (now (objects .exit)) at c row r ⌝ }
+    ensures { λ r. ⌜ ValueDid (typeTable (now (rows .entry)) (now (members .entry))) (now (bytes .entry)) held depth (now (values .entry)) (now (values .exit)) (now (objects .entry)) (now (objects .exit)) at c row r ⌝ }
 {
     let kind = words::number_at(rows, row * 4);
     let a = words::number_at(rows, row * 4 + 1) as usize;
@@ -484,8 +484,8 @@ fn envelopes(
     at: usize,
     c: Cursor,
 ) -> Walked
-    requires { ⌜ Ready (now rows) (now members) (now sizes) (now alignments) depth row × (kindAt (typeTable (now rows) (now members)) row ≡ 9) × Ask (length (now bytes)) held (count * 8) at c ⌝ }
-    ensures { λ r. ⌜ EnvelopesDid (now (rows .entry)) (now (members .entry)) (now (bytes .entry)) held depth (now (values .entry)) (now (values .exit)) (now (objects .entry)) (now (objects .exit)) at c row count r ⌝ }
+    requires { ⌜ Ready (typeTable (now rows) (now members)) (now sizes) (now alignments) depth row × (kindAt (typeTable (now rows) (now members)) row ≡ 9) × Ask (length (now bytes)) held (count * 8) at c ⌝ }
+    ensures { λ r. ⌜ EnvelopesDid (typeTable (now (rows .entry)) (now (members .entry))) (now (bytes .entry)) held depth (now (values .entry)) (now (values .exit)) (now (objects .entry)) (now (objects .exit)) at c row count r ⌝ }
 {
     let first = words::number_at(rows, row * 4 + 1) as usize;
     let known = words::number_at(rows, row * 4 + 2) as usize;
@@ -545,8 +545,8 @@ fn content(
     at: usize,
     c: Cursor,
 ) -> Walked
-    requires { ⌜ Ready (now rows) (now members) (now sizes) (now alignments) depth row × OrdinalFits (now rows) (now members) what × Ask (length (now bytes)) held 7 at c ⌝ }
-    ensures { λ r. ⌜ ContentDid (now (rows .entry)) (now (members .entry)) (now (bytes .entry)) held depth (now (values .entry)) (now (values .exit)) (now (objects .entry)) (now (objects .exit)) at c row what r ⌝ }
+    requires { ⌜ Ready (typeTable (now rows) (now members)) (now sizes) (now alignments) depth row × OrdinalFits (typeTable (now rows) (now members)) what × Ask (length (now bytes)) held 7 at c ⌝ }
+    ensures { λ r. ⌜ ContentDid (typeTable (now (rows .entry)) (now (members .entry))) (now (bytes .entry)) held depth (now (values .entry)) (now (values .exit)) (now (objects .entry)) (now (objects .exit)) at c row what r ⌝ }
 {
     match what {
         Ordinal::Unknown => unknown_content(bytes, held, values, objects, depth, row, at, c),

@@ -86,9 +86,9 @@ module _ {parts : List Field} (one : parts ≡ field 0 0 ∷ []) {size : ℕ} (s
       → DidValues bytes v v′ count at c (On d) (numbersAt 1 count)
       → DidAsked bytes v v′ (count * size) at c (On d) (λ m. D.elements size (λ i. partsAt parts m) 0 count)
   unfolding numbersAt
-  bools-given bytes count at {c = c} is low did rows members objects handles a =
-      rw (one, one-byte, bools-numbers (message rows members bytes handles) 0 count at (c .next) (c .handles) each)
-      (did-more (count * 1) (omega arith) (did rows members objects handles (a .free) (a .held)))
+  bools-given bytes count at {c = c} is low did t objects handles a =
+      rw (one, one-byte, bools-numbers (message t bytes handles) 0 count at (c .next) (c .handles) each)
+      (did-more (count * 1) (omega arith) (did t objects handles (a .free) (a .held)))
     where
       each : (i : ℕ) → i < count → getD bytes (at + i) 0 ≤ 1
       each i h = omega (arith, is, part-none-above bytes at (at + count) i (omega arith) (bools-inside count a))

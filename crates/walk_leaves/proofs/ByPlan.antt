@@ -9,12 +9,13 @@ use native.Mathlib.Omega.{arith}
 use borrow.Author.Tests.{ne-eqb}
 use lib.ListN.{length, getD}
 use Rattle.rules.specs.Bytes.{word}
+use Rattle.rules.specs.TypeTable.{TypeTable}
 use Rattle.rules.specs.Sizes.{Field, field}
 use Rattle.rules.specs.Decode as D
 use Rattle.rules.specs.Envelope.{decodeWord}
 use Rattle.words.proofs.Stores.{sets-past}
 use Rattle.nesting.specs.Plans.{widthSize, widthLayout, partsSize, partsFrom, Runnable}
-use Rattle.nesting.specs.Ready.{widthAllowed}
+use Rattle.nesting.specs.Ready.{someTable, widthAllowed}
 use Rattle.nesting.proofs.Items.{itemsOf, sizeOfItems, fields-size}
 use Rattle.nesting.proofs.Plans.{parts-next, parts-none, size-least}
 use Rattle.walk_leaves.specs.declared.cursor.Cursor.{Cursor}
@@ -43,8 +44,8 @@ module _ (bytes values : List ℕ) (width at : ℕ) (c : Cursor) where
   part-past n h = part-number n (number-given bytes values width at c refl (sym (sets-past values (c .values) (word bytes at width ∷ []) h)) refl)
 
 pub filled-none : (bytes : List ℕ) (at count : ℕ) (c : Cursor) → count ≡ 0 → DidNeither bytes 0 at c (On c) (λ m. D.fill m count)
-filled-none bytes at count c e rows members values objects handles free held =
-    let m = message rows members bytes handles in
+filled-none bytes at count c e t values objects handles free held =
+    let m = message t bytes handles in
     rw (e, no-fill m widthLayout (widthAt m) at (c .next) (c .handles)) (did-nothing free held)
 
 -- ---- the parts of a value
@@ -52,9 +53,9 @@ filled-none bytes at count c e rows members values objects handles free held =
 -- What is left of them, at a place; the whole began at the cursor `c`.
 pub record PartsLeft (bytes : List ℕ) (whole : List Field) (at : ℕ) (v : List ℕ) (c : Cursor) (v′ : List ℕ) (d : Cursor) (left : List Field) (place : ℕ) : Type 0 where
   pub runs : Runnable left
-  pub work : (rows members objects : List ℕ) (handles : ℕ) → Ask (length bytes) handles (partsSize whole) at c
-      → WorkLeft (message rows members bytes handles) widthLayout (widthAt (message rows members bytes handles)) (length bytes) handles (partsSize whole)
-      (partsAt whole (message rows members bytes handles) at (c .next) (c .handles)) v objects c v′ objects d (itemsOf left) place
+  pub work : (t : TypeTable) (objects : List ℕ) (handles : ℕ) → Ask (length bytes) handles (partsSize whole) at c
+      → WorkLeft (message t bytes handles) widthLayout (widthAt (message t bytes handles)) (length bytes) handles (partsSize whole)
+      (partsAt whole (message t bytes handles) at (c .next) (c .handles)) v objects c v′ objects d (itemsOf left) place
 
 pub parts-start : (bytes widths fills : List ℕ) (count at : ℕ) (v : List ℕ) (c : Cursor) → Runnable (partsFrom widths fills 0 count)
     → PartsLeft bytes (partsFrom widths fills 0 count) at v c v c (partsFrom widths fills 0 (count - 0)) at
@@ -63,9 +64,9 @@ parts-start bytes widths fills count at v c runs =
     let whole = partsFrom widths fills 0 count in
     rw all (record {
       runs = runs;
-      work = λ rows members objects handles a. record {
+      work = λ t objects handles a. record {
         asks = rw (fields-size widthLayout whole) a;
-        leads = λ w x r q. rw (run-fields (message rows members bytes handles) widthLayout (widthAt (message rows members bytes handles)) whole, ← (fields-size widthLayout whole)) q;
+        leads = λ w x r q. rw (run-fields (message t bytes handles) widthLayout (widthAt (message t bytes handles)) whole, ← (fields-size widthLayout whole)) q;
       };
     })
 
@@ -78,9 +79,9 @@ module _ {bytes : List ℕ} {whole : List Field} {at : ℕ} {v : List ℕ} {c : 
   pub parts-end : (widths fills : List ℕ) (i count : ℕ) → PartsLeft bytes whole at v c v′ d (partsFrom widths fills i (count - i)) place → count ≤ i
       → DidAsked bytes v v′ (partsSize whole) at c (On d) (partsAt whole)
   unfolding itemsOf
-  parts-end widths fills i count p h rows members objects handles a =
+  parts-end widths fills i count p h t objects handles a =
       let q : PartsLeft bytes whole at v c v′ d [] place = rw (parts-none widths fills i count h) at p in
-      work-end (q .work rows members objects handles a)
+      work-end (q .work t objects handles a)
 
   module _ {width fill : ℕ} {rest : List Field} (p : PartsLeft bytes whole at v c v′ d (field width fill ∷ rest) place) where
     pub part-allowed : (width ≡ 0 → ⊥) → widthAllowed width ≡ true
@@ -89,61 +90,61 @@ module _ {bytes : List ℕ} {whole : List Field} {at : ℕ} {v : List ℕ} {c : 
 
     pub part-asks : Ask (length bytes) 64 (partsSize whole) at c → (place + (widthSize width + fill) ≤ 65536) × (d .values < 4294967296)
     unfolding itemsOf sizeOfItems
-    part-asks a = let x = p .work [] [] [] 64 a .asks in (omega (arith, x .inside, x .short), omega (arith, x .small))
+    part-asks a = let x = p .work someTable [] 64 a .asks in (omega (arith, x .inside, x .short), omega (arith, x .small))
 
     module _ {v″ : List ℕ} {r : Walked} (q : DidValues bytes v′ v″ 1 place d r (λ m. widthAt m width)) where
       pub part-refused : {f : Stop} → r ≡ Refused f → DidAsked bytes v v″ (partsSize whole) at c (Refused f) (partsAt whole)
       unfolding itemsOf
-      part-refused z rows members objects handles a =
-          let x = p .work rows members objects handles a in
-          item-refused x ((rw z at q) rows members objects handles (x .asks .free) (x .asks .held))
+      part-refused z t objects handles a =
+          let x = p .work t objects handles a in
+          item-refused x ((rw z at q) t objects handles (x .asks .free) (x .asks .held))
 
-      module _ {e : Cursor} (z : r ≡ On e) {size : ℕ} (s : size ≡ widthSize width) {t : Walked} (n : DidNeither bytes 0 (place + size) e t (λ m. D.fill m fill)) where
-        pub fill-refused : {f : Stop} → t ≡ Refused f → DidAsked bytes v v″ (partsSize whole) at c (Refused f) (partsAt whole)
+      module _ {e : Cursor} (z : r ≡ On e) {size : ℕ} (s : size ≡ widthSize width) {filled : Walked} (n : DidNeither bytes 0 (place + size) e filled (λ m. D.fill m fill)) where
+        pub fill-refused : {f : Stop} → filled ≡ Refused f → DidAsked bytes v v″ (partsSize whole) at c (Refused f) (partsAt whole)
         unfolding itemsOf
-        fill-refused w rows members objects handles a =
-            let x = p .work rows members objects handles a in
-            let y = item-on x ((rw z at q) rows members objects handles (x .asks .free) (x .asks .held)) (size-least width) in
-            item-refused y ((rw (w, s) at n) rows members v″ objects handles (y .asks .free) (y .asks .held))
+        fill-refused w t objects handles a =
+            let x = p .work t objects handles a in
+            let y = item-on x ((rw z at q) t objects handles (x .asks .free) (x .asks .held)) (size-least width) in
+            item-refused y ((rw (w, s) at n) t v″ objects handles (y .asks .free) (y .asks .held))
 
-        pub part-on : {g : Cursor} → t ≡ On g → PartsLeft bytes whole at v c v″ g rest (place + size + fill)
+        pub part-on : {g : Cursor} → filled ≡ On g → PartsLeft bytes whole at v c v″ g rest (place + size + fill)
         unfolding itemsOf Runnable
         part-on w = record {
           runs = p .runs .1;
-          work = λ rows members objects handles a.
-              let x = p .work rows members objects handles a in
-              let y = item-on x ((rw z at q) rows members objects handles (x .asks .free) (x .asks .held)) (size-least width) in
-              rw s (item-on y ((rw (w, s) at n) rows members v″ objects handles (y .asks .free) (y .asks .held)) (omega arith));
+          work = λ t objects handles a.
+              let x = p .work t objects handles a in
+              let y = item-on x ((rw z at q) t objects handles (x .asks .free) (x .asks .held)) (size-least width) in
+              rw s (item-on y ((rw (w, s) at n) t v″ objects handles (y .asks .free) (y .asks .held)) (omega arith));
         }
 
 -- ---- a run of values
 
 -- What is left of them, at a place; the whole began at the cursor `c`.
 pub record ValuesLeft (bytes : List ℕ) (parts : List Field) (size count at : ℕ) (v : List ℕ) (c : Cursor) (v′ : List ℕ) (d : Cursor) (left place : ℕ) : Type 0 where
-  pub run : (rows members objects : List ℕ) (handles : ℕ) → Ask (length bytes) handles (count * size) at c
-      → RunLeft (length bytes) handles size (λ k. partsAt parts (message rows members bytes handles)) (count * size)
-      (D.elements size (λ k. partsAt parts (message rows members bytes handles)) 0 count at (c .next) (c .handles)) v v′ objects objects c d 0 left place
+  pub run : (t : TypeTable) (objects : List ℕ) (handles : ℕ) → Ask (length bytes) handles (count * size) at c
+      → RunLeft (length bytes) handles size (λ k. partsAt parts (message t bytes handles)) (count * size)
+      (D.elements size (λ k. partsAt parts (message t bytes handles)) 0 count at (c .next) (c .handles)) v v′ objects objects c d 0 left place
 
 pub values-start : (bytes : List ℕ) (parts : List Field) (size count at : ℕ) (v : List ℕ) (c : Cursor) → ValuesLeft bytes parts size count at v c v c count at
-values-start bytes parts size count at v c = record { run = λ rows members objects handles a. run-start 0 count at a }
+values-start bytes parts size count at v c = record { run = λ t objects handles a. run-start 0 count at a }
 
 module _ {bytes : List ℕ} {parts : List Field} {size count at : ℕ} {v : List ℕ} {c : Cursor} {v′ : List ℕ} {d : Cursor} {left place : ℕ}
     (p : ValuesLeft bytes parts size count at v c v′ d left place) where
   pub value-asks : Ask (length bytes) 64 (count * size) at c → 0 < left → Ask (length bytes) 64 size place d
-  value-asks a h = run-asks (p .run [] [] [] 64 a) h
+  value-asks a h = run-asks (p .run someTable [] 64 a) h
 
   pub values-end : left ≤ 0 → DidAsked bytes v v′ (count * size) at c (On d) (λ m. D.elements size (λ i. partsAt parts m) 0 count)
-  values-end h rows members objects handles a = run-end (p .run rows members objects handles a) h
+  values-end h t objects handles a = run-end (p .run t objects handles a) h
 
   module _ (h : 0 < left) (s : partsSize parts ≡ size) {v″ : List ℕ} {r : Walked} (q : DidAsked bytes v′ v″ (partsSize parts) place d r (partsAt parts)) where
     pub value-refused : {f : Stop} → r ≡ Refused f → DidAsked bytes v v″ (count * size) at c (Refused f) (λ m. D.elements size (λ i. partsAt parts m) 0 count)
-    value-refused z rows members objects handles a =
-        let x = p .run rows members objects handles a in
-        run-stopped x h ((rw s at q) rows members objects handles (run-asks x h)) z
+    value-refused z t objects handles a =
+        let x = p .run t objects handles a in
+        run-stopped x h ((rw s at q) t objects handles (run-asks x h)) z
 
     pub value-on : {e : Cursor} → r ≡ On e → ValuesLeft bytes parts size count at v c v″ e (left - 1) (place + size)
     value-on z = record {
-      run = λ rows members objects handles a.
-          let x = p .run rows members objects handles a in
-          run-next x h ((rw s at q) rows members objects handles (run-asks x h)) refl z;
+      run = λ t objects handles a.
+          let x = p .run t objects handles a in
+          run-next x h ((rw s at q) t objects handles (run-asks x h)) refl z;
     }

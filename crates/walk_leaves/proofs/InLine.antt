@@ -60,18 +60,18 @@ next-counted i end h k = record { fits = omega arith }
 module _ (bytes values : List ℕ) (at : ℕ) (c : Cursor) {x : ℕ} (read : x ≡ getD bytes at 0) where
   pub bool-refused : {r : Walked} → 1 < x → r ≡ Refused (stop boolNotZeroOrOne at) → DidValues bytes values values 1 at c r boolAt
   unfolding boolAt D.recordThen readNumber
-  bool-refused h e rows members objects handles free held = simp (e, word-byte, ← read, lt-leb _ _ h) (did-stop (omega arith))
+  bool-refused h e t objects handles free held = simp (e, word-byte, ← read, lt-leb _ _ h) (did-stop (omega arith))
 
   pub bool-given : {values′ : List ℕ} {d : Cursor} → x ≤ 1 → values′ ≡ set values (c .values) x → d ≡ gaveOne c → DidValues bytes values values′ 1 at c (On d) boolAt
   unfolding boolAt D.recordThen readNumber
-  bool-given h e f rows members objects handles free held = simp (e, f, word-byte, ← read, le-leb _ _ h) (did-one x (omega arith) free held)
+  bool-given h e f t objects handles free held = simp (e, f, word-byte, ← read, le-leb _ _ h) (did-one x (omega arith) free held)
 
 -- ---- numbers
 
 pub number-given : (bytes values : List ℕ) (width at : ℕ) (c : Cursor) {x : ℕ} {values′ : List ℕ} {d : Cursor} → x ≡ word bytes at width
     → values′ ≡ set values (c .values) x → d ≡ gaveOne c → DidValues bytes values values′ 1 at c (On d) (λ m. decodeWord m width)
 unfolding decodeWord D.recordThen readNumber
-number-given bytes values width at c read e f rows members objects handles free held = rw (e, f, ← read) (did-one _ (omega arith) free held)
+number-given bytes values width at c read e f t objects handles free held = rw (e, f, ← read) (did-one _ (omega arith) free held)
 
 -- ---- handles
 
@@ -79,17 +79,17 @@ module _ (bytes values : List ℕ) (held optional at : ℕ) (c : Cursor) {x : �
   pub handle-absent : {values′ : List ℕ} {d : Cursor} → x ≡ 0 → optional ≡ 1 → values′ ≡ set values (c .values) 0 → d ≡ gaveOne c → c .handles ≤ held
       → DidHandles bytes values values′ held 1 at c (On d) (handleAt (eqb optional 1))
   unfolding handleAt D.recordThen readPresence presence
-  handle-absent p q e f k rows members objects free = simp (e, f, ← read, p, q) (did-one 0 (omega arith) free k)
+  handle-absent p q e f k t objects free = simp (e, f, ← read, p, q) (did-one 0 (omega arith) free k)
 
   pub handle-required : {r : Walked} → x ≡ 0 → (optional ≡ 1 → ⊥) → r ≡ Refused (stop requiredAbsent at)
       → DidHandles bytes values values held 1 at c r (handleAt (eqb optional 1))
   unfolding handleAt D.recordThen readPresence presence
-  handle-required p q e rows members objects free = simp (e, ← read, p, ne-eqb _ _ q) (did-stop (omega arith))
+  handle-required p q e t objects free = simp (e, ← read, p, ne-eqb _ _ q) (did-stop (omega arith))
 
   pub handle-taken : {values′ : List ℕ} {d : Cursor} → x ≡ ones32 → values′ ≡ set values (c .values) 1 → d ≡ gaveOne c → c .handles < held
       → DidHandles bytes values values′ held 1 at c (On (record { next = d .next; handles = c .handles + 1; values = d .values; objects = d .objects })) (handleAt (eqb optional 1))
   unfolding handleAt D.recordThen readPresence presence D.takeHandles objectList
-  handle-taken p e f k rows members objects free = simp (e, f, ← read, p, le-leb (c .handles + 1) held (omega arith)) (record {
+  handle-taken p e f k t objects free = simp (e, f, ← read, p, le-leb (c .handles + 1) held (omega arith)) (record {
     says = cursor-same (c .next) (c .handles + 1) refl (sym (add-zero (c .objects)));
     valued = refl;
     listed = refl;
@@ -100,13 +100,13 @@ module _ (bytes values : List ℕ) (held optional at : ℕ) (c : Cursor) {x : �
   pub handle-missing : {values′ : List ℕ} {r : Walked} → x ≡ ones32 → values′ ≡ set values (c .values) 1 → held ≤ c .handles → r ≡ Refused (stop tooFewHandles at)
       → DidHandles bytes values values′ held 1 at c r (handleAt (eqb optional 1))
   unfolding handleAt D.recordThen readPresence presence D.takeHandles objectList
-  handle-missing p e k f rows members objects free =
+  handle-missing p e k f t objects free =
       simp (e, f, ← read, p, lt-leb (c .handles + 1) held (omega arith)) (record { says = refl; valued = refl; listed = refl; within = omega arith; rises = tt })
 
   pub handle-wrong : {r : Walked} → (x ≡ 0 → ⊥) → (x ≡ ones32 → ⊥) → r ≡ Refused (stop presenceWrong at)
       → DidHandles bytes values values held 1 at c r (handleAt (eqb optional 1))
   unfolding handleAt D.recordThen readPresence presence
-  handle-wrong p q e rows members objects free = simp (e, ← read, ne-eqb _ _ p, ne-eqb _ _ q) (did-stop (omega arith))
+  handle-wrong p q e t objects free = simp (e, ← read, ne-eqb _ _ p, ne-eqb _ _ q) (did-stop (omega arith))
 
 -- ---- runs of numbers
 
@@ -203,7 +203,7 @@ module _ (bytes values : List ℕ) (width count at : ℕ) (c : Cursor) where
   pub numbers-given : {values′ : List ℕ} → values′ ≡ sets values (c .values) (wordsFrom bytes width at count)
       → DidValues bytes values values′ count at c (On (gaveMany count c)) (numbersAt width count)
   unfolding numbersAt objectList
-  numbers-given e rows members objects handles free held = rw (elements-words (message rows members bytes handles) width 0 count at (c .next) (c .handles)) (record {
+  numbers-given e t objects handles free held = rw (elements-words (message t bytes handles) width 0 count at (c .next) (c .handles)) (record {
     says = cursor-same (c .next) (c .handles) (ap (λ (n : ℕ). c .values + n) (sym (length-wordsFrom bytes width at count))) (sym (add-zero (c .objects)));
     valued = e;
     listed = refl;

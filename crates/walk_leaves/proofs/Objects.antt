@@ -37,11 +37,11 @@ all-zeros bytes at count e h = omega (arith, zeros-most (drop at bytes) count)
 module _ (bytes : List ℕ) (at count : ℕ) (c : Cursor) {zeros : ℕ} (e : zeros ≡ leadingZeros (part bytes at count)) where
   pub fill-refused : {r : Walked} → zeros < count → r ≡ Refused (stop fillNotZero (at + zeros)) → DidNeither bytes 0 at c r (λ m. D.fill m count)
   unfolding D.fill
-  fill-refused h f rows members values objects handles free held = simp (f, ← e, ne-eqb zeros count (λ q. omega arith)) (did-stop (omega arith))
+  fill-refused h f t values objects handles free held = simp (f, ← e, ne-eqb zeros count (λ q. omega arith)) (did-stop (omega arith))
 
   pub fill-passed : count ≤ zeros → DidNeither bytes 0 at c (On c) (λ m. D.fill m count)
   unfolding D.fill
-  fill-passed h rows members values objects handles free held = simp (eq-eqb _ _ (all-zeros bytes at count e h)) (did-nothing free held)
+  fill-passed h t values objects handles free held = simp (eq-eqb _ _ (all-zeros bytes at count e h)) (did-nothing free held)
 
 -- ---- claims
 
@@ -61,19 +61,19 @@ module _ (bytes objects : List ℕ) (kind row size : ℕ) (c : Cursor) where
   pub claim-unfit : {r : Walked} → length bytes - c .next < whole size → r ≡ Refused (stop objectDoesNotFit (c .next))
       → DidObjects bytes objects objects 4 0 c r (claimAt kind row size)
   unfolding claimAt padded roundUp
-  claim-unfit h e rows members values handles free held = simp (e, lt-leb (c .next + whole size) (length bytes) (omega arith)) (did-stop (omega arith))
+  claim-unfit h e t values handles free held = simp (e, lt-leb (c .next + whole size) (length bytes) (omega arith)) (did-stop (omega arith))
 
   module _ (fits : whole size ≤ length bytes - c .next) {zeros : ℕ} (e : zeros ≡ leadingZeros (part bytes (c .next + size) (whole size - size))) where
     pub claim-unfilled : {r : Walked} → zeros < whole size - size → r ≡ Refused (stop fillNotZero (c .next + size + zeros))
         → DidObjects bytes objects objects 4 0 c r (claimAt kind row size)
     unfolding claimAt padded roundUp
-    claim-unfilled h f rows members values handles free held =
+    claim-unfilled h f t values handles free held =
         simp (f, ← e, le-leb (c .next + whole size) (length bytes) (omega arith), ne-eqb zeros (whole size - size) (λ q. omega arith)) (did-stop (omega arith))
 
     pub claim-given : {objects′ : List ℕ} → whole size - size ≤ zeros → objects′ ≡ sets objects (c .objects) (kind ∷ row ∷ c .next ∷ size ∷ [])
         → DidObjects bytes objects objects′ 4 0 c (On (record { next = c .next + whole size; handles = c .handles; values = c .values; objects = c .objects + 4 })) (claimAt kind row size)
     unfolding claimAt padded roundUp objectList
-    claim-given h f rows members values handles free held =
+    claim-given h f t values handles free held =
         simp (le-leb (c .next + whole size) (length bytes) (omega arith), eq-eqb _ _ (all-zeros bytes (c .next + size) (whole size - size) e h)) (record {
           says = cursor-same (c .next + whole size) (c .handles) (sym (add-zero (c .values))) refl;
           valued = refl;

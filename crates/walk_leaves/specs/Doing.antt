@@ -8,7 +8,7 @@ use lib.Seq.{sets}
 use Rattle.rules.specs.declared.Place.the-variants.{Byte}
 use Rattle.rules.specs.declared.Fault.{Fault}
 use Rattle.rules.specs.Refusals.{fault, Answer, accepted, refused}
-use Rattle.rules.specs.TypeTable.{typeTable}
+use Rattle.rules.specs.TypeTable.{TypeTable}
 use Rattle.rules.specs.Trace.{objectList}
 use Rattle.rules.specs.Decode.{Message, Decoded, went, stopped, traceOf}
 use Rattle.walk_leaves.specs.declared.cursor.Cursor.{Cursor}
@@ -16,8 +16,8 @@ use Rattle.walk_leaves.specs.declared.cursor.Stop.{Stop}
 use Rattle.walk_leaves.specs.declared.cursor.Walked.{Walked}
 use Rattle.walk_leaves.specs.declared.cursor.Walked.the-variants.{On, Refused}
 
-abbrev pub message : (rows members bytes : List ℕ) (handles : ℕ) → Message
-message rows members bytes handles = record { table = typeTable rows members; bytes = bytes; handles = handles }
+abbrev pub message : (t : TypeTable) (bytes : List ℕ) (handles : ℕ) → Message
+message t bytes handles = record { table = t; bytes = bytes; handles = handles }
 
 abbrev pub valuesOf : Decoded → List ℕ
 valuesOf (went next used values trace) = values

@@ -8,6 +8,7 @@ use lib.ListN.{length}
 use Rattle.rules.specs.declared.Place.the-variants.{Byte}
 use Rattle.rules.specs.Refusals.{fault, objectDoesNotFit}
 use Rattle.rules.specs.Bytes.{word, padded, ones32}
+use Rattle.rules.specs.TypeTable.{TypeTable}
 use Rattle.rules.specs.Trace.{claimed}
 use Rattle.rules.specs.Decode as D
 use Rattle.rules.specs.Decode.{Message, went, Decoder}
@@ -47,22 +48,22 @@ claimAt kind row size m at next used =
 -- Done under any type table, with any handle count from the one used on, and with the objects left alone;
 abbrev pub DidValues : (bytes values values′ : List ℕ) (grow at : ℕ) (c : Cursor) (r : Walked) → (Message → Decoder) → Type 0
 DidValues bytes values values′ grow at c r part =
-    (rows members objects : List ℕ) (handles : ℕ) → c .next ≤ length bytes → c .handles ≤ handles
-    → Did (length bytes) handles grow values values′ objects objects c r (part (message rows members bytes handles) at (c .next) (c .handles))
+    (t : TypeTable) (objects : List ℕ) (handles : ℕ) → c .next ≤ length bytes → c .handles ≤ handles
+    → Did (length bytes) handles grow values values′ objects objects c r (part (message t bytes handles) at (c .next) (c .handles))
 
 -- the same of a part that leaves the values alone.
 abbrev pub DidObjects : (bytes objects objects′ : List ℕ) (grow at : ℕ) (c : Cursor) (r : Walked) → (Message → Decoder) → Type 0
 DidObjects bytes objects objects′ grow at c r part =
-    (rows members values : List ℕ) (handles : ℕ) → c .next ≤ length bytes → c .handles ≤ handles
-    → Did (length bytes) handles grow values values objects objects′ c r (part (message rows members bytes handles) at (c .next) (c .handles))
+    (t : TypeTable) (values : List ℕ) (handles : ℕ) → c .next ≤ length bytes → c .handles ≤ handles
+    → Did (length bytes) handles grow values values objects objects′ c r (part (message t bytes handles) at (c .next) (c .handles))
 
 -- The same with a handle count that the function knows, and of a part that leaves both lists alone.
 abbrev pub DidHandles : (bytes values values′ : List ℕ) (handles grow at : ℕ) (c : Cursor) (r : Walked) → (Message → Decoder) → Type 0
 DidHandles bytes values values′ handles grow at c r part =
-    (rows members objects : List ℕ) → c .next ≤ length bytes
-    → Did (length bytes) handles grow values values′ objects objects c r (part (message rows members bytes handles) at (c .next) (c .handles))
+    (t : TypeTable) (objects : List ℕ) → c .next ≤ length bytes
+    → Did (length bytes) handles grow values values′ objects objects c r (part (message t bytes handles) at (c .next) (c .handles))
 
 abbrev pub DidNeither : (bytes : List ℕ) (grow at : ℕ) (c : Cursor) (r : Walked) → (Message → Decoder) → Type 0
 DidNeither bytes grow at c r part =
-    (rows members values objects : List ℕ) (handles : ℕ) → c .next ≤ length bytes → c .handles ≤ handles
-    → Did (length bytes) handles grow values values objects objects c r (part (message rows members bytes handles) at (c .next) (c .handles))
+    (t : TypeTable) (values objects : List ℕ) (handles : ℕ) → c .next ≤ length bytes → c .handles ≤ handles
+    → Did (length bytes) handles grow values values objects objects c r (part (message t bytes handles) at (c .next) (c .handles))

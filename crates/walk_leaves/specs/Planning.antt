@@ -5,6 +5,7 @@ use Prim.Native.Nat.{ℕ}
 use lib.Dec.{eqb}
 use lib.ListN.{length}
 use Rattle.rules.specs.Refusals.{if_then_else_}
+use Rattle.rules.specs.TypeTable.{TypeTable}
 use Rattle.rules.specs.Sizes.{Field}
 use Rattle.rules.specs.Decode.{Message, Decoder}
 use Rattle.rules.specs.Envelope.{decodeWord}
@@ -26,5 +27,5 @@ partsAt parts m = W.fields m widthLayout (widthAt m) parts
 -- Done under any type table, with any handle count, wherever it is asked for; the objects are left alone.
 abbrev pub DidAsked : (bytes values values′ : List ℕ) (need at : ℕ) (c : Cursor) (r : Walked) → (Message → Decoder) → Type 0
 DidAsked bytes values values′ need at c r part =
-    (rows members objects : List ℕ) (handles : ℕ) → Ask (length bytes) handles need at c
-    → Did (length bytes) handles need values values′ objects objects c r (part (message rows members bytes handles) at (c .next) (c .handles))
+    (t : TypeTable) (objects : List ℕ) (handles : ℕ) → Ask (length bytes) handles need at c
+    → Did (length bytes) handles need values values′ objects objects c r (part (message t bytes handles) at (c .next) (c .handles))

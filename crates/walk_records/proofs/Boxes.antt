@@ -10,7 +10,7 @@ use lib.ListN.{length, set}
 use Rattle.rules.specs.declared.Place.the-variants.{Byte}
 use Rattle.rules.specs.Refusals.{fault, presenceWrong}
 use Rattle.rules.specs.Bytes.{word, ones64}
-use Rattle.rules.specs.TypeTable.{typeTable}
+use Rattle.rules.specs.TypeTable.{TypeTable}
 use Rattle.rules.specs.Sizes.{sizeOf}
 use Rattle.rules.specs.Trace.{boxedObject}
 use Rattle.rules.specs.Decode as D
@@ -43,26 +43,26 @@ module _ (m : Message) (at : ℕ) {says : ℕ} (said : says ≡ word (m .bytes) 
 module _ (bytes : List ℕ) (handles depth : ℕ) (values objects : List ℕ) (at : ℕ) (c : Cursor) (element size : ℕ) {says : ℕ} (said : says ≡ word bytes at 8) where
   pub box-closed : {values′ : List ℕ} {d : Cursor} → Ask (length bytes) handles 8 at c → says ≡ 0 → values′ ≡ set values (c .values) 0 → d ≡ gaveOne c
       → BoxOpens bytes handles depth values values′ objects objects at c element size (Closed d)
-  box-closed ask h e g rows members sized =
-      rw (e, g, record-got 8 _ _ at (c .next) (c .handles) (box-absent (message rows members bytes handles) at said h)) (did-one 0 (omega arith) (ask .free) (ask .held))
+  box-closed ask h e g t sized =
+      rw (e, g, record-got 8 _ _ at (c .next) (c .handles) (box-absent (message t bytes handles) at said h)) (did-one 0 (omega arith) (ask .free) (ask .held))
 
   pub box-refused : {f : Stop} → (says ≡ 0 → ⊥) → (says ≡ ones64 → ⊥) → f ≡ stop presenceWrong at
       → BoxOpens bytes handles depth values values objects objects at c element size (Refused f)
-  box-refused h k e rows members sized = rw (e, record-wrong 8 _ _ at (c .next) (c .handles) (box-wrong (message rows members bytes handles) at said h k)) (did-stop (omega arith))
+  box-refused h k e t sized = rw (e, record-wrong 8 _ _ at (c .next) (c .handles) (box-wrong (message t bytes handles) at said h k)) (did-stop (omega arith))
 
-  box-whole : (rows members : List ℕ) → sizeOf (typeTable rows members) element ≡ size → says ≡ ones64
-      → boxAt (message rows members bytes handles) depth element at (c .next) (c .handles)
-      ≡ D.after (1 ∷ []) [] (D.oneDeeper (W.levels (message rows members bytes handles) depth) at
-      (λ deep below. D.claim (message rows members bytes handles) boxedObject element size (deep element)) at (c .next) (c .handles))
-  box-whole rows members sized h =
-      let m = message rows members bytes handles in
+  box-whole : (t : TypeTable) → sizeOf t element ≡ size → says ≡ ones64
+      → boxAt (message t bytes handles) depth element at (c .next) (c .handles)
+      ≡ D.after (1 ∷ []) [] (D.oneDeeper (W.levels (message t bytes handles) depth) at
+      (λ deep below. D.claim (message t bytes handles) boxedObject element size (deep element)) at (c .next) (c .handles))
+  box-whole t sized h =
+      let m = message t bytes handles in
       record-got 8 _ _ at (c .next) (c .handles) (box-present m at said h)
       ∙ rw (sized, deeper-anywhere m boxedObject element size (W.levels m depth) at (λ deep below. deep element) (at + 8) at)
 
   pub box-opened : {values′ : List ℕ} (objects′ : List ℕ) {d : Cursor} (r : Opened) → says ≡ ones64 → values′ ≡ set values (c .values) 1 → d ≡ gaveOne c
       → DeeperOpens bytes handles depth objects objects′ at d boxedObject element size r
       → BoxOpens bytes handles depth values values′ objects objects′ at c element size r
-  box-opened objects′ r h e g opens rows members sized =
+  box-opened objects′ r h e g opens t sized =
       let given = set values (c .values) 1 in
-      rw (e, box-whole rows members sized h)
-      (opens-put (length bytes) handles values given objects objects′ c _ 4 8 1 _ _ r (omega arith) (rw g at (opens rows members given (λ deep below. deep element))))
+      rw (e, box-whole t sized h)
+      (opens-put (length bytes) handles values given objects objects′ c _ 4 8 1 _ _ r (omega arith) (rw g at (opens t given (λ deep below. deep element))))

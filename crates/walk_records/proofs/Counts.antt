@@ -14,12 +14,14 @@ use lib.Dec.{leb, eqb}
 use lib.ListN.{length, set}
 use Rattle.rules.specs.Refusals.{presenceWrong, requiredAbsent, absentNotZero, countOverLargest}
 use Rattle.rules.specs.Bytes.{word, ones64}
+use Rattle.rules.specs.TypeTable.{TypeTable}
 use Rattle.rules.specs.Sizes.{sizeOf}
 use Rattle.rules.specs.Trace.{vectorObject}
 use Rattle.rules.specs.Decode as D
 use Rattle.rules.specs.Decode.{Message, Decoder, got}
 use Rattle.rules.specs.Records.{Presence, absent, present, neither, presence, unless, readIf, countRecord, readCount}
 use Rattle.rules.specs.Walk as W
+use Rattle.nesting.specs.Ready.{someTable}
 use Rattle.walk_leaves.specs.declared.cursor.Cursor.{Cursor}
 use Rattle.walk_leaves.specs.declared.cursor.Stop.{Stop}
 use Rattle.walk_records.specs.declared.records.Count.{Count}
@@ -38,33 +40,33 @@ use Rattle.walk_records.proofs.Openings.{record-got, record-wrong, reco
 module _ (bytes : List ℕ) (optional largest at : ℕ) {count says : ℕ} (counted : count ≡ word bytes at 8) (said : says ≡ word bytes (at + 8) 8) where
   pub count-absent : says ≡ 0 → optional ≡ 1 → count ≡ 0 → CountAt bytes optional largest at Absent
   unfolding readCount presence
-  count-absent p q e rows members handles = (simp (← counted, ← said, p, q, e), tt)
+  count-absent p q e t handles = (simp (← counted, ← said, p, q, e), tt)
 
   pub count-absent-not-zero : says ≡ 0 → optional ≡ 1 → (count ≡ 0 → ⊥) → {f : Stop} → f ≡ stop absentNotZero at → CountAt bytes optional largest at (Wrong f)
   unfolding readCount presence
-  count-absent-not-zero p q e y rows members handles = (simp (← counted, ← said, p, q, ne-eqb _ _ e, y), rw y (omega arith))
+  count-absent-not-zero p q e y t handles = (simp (← counted, ← said, p, q, ne-eqb _ _ e, y), rw y (omega arith))
 
   pub count-required : says ≡ 0 → (optional ≡ 1 → ⊥) → {f : Stop} → f ≡ stop requiredAbsent at → CountAt bytes optional largest at (Wrong f)
   unfolding readCount presence
-  count-required p q y rows members handles = (simp (← counted, ← said, p, ne-eqb _ _ q, y), rw y (omega arith))
+  count-required p q y t handles = (simp (← counted, ← said, p, ne-eqb _ _ q, y), rw y (omega arith))
 
   pub count-over : says ≡ ones64 → largest < count → {f : Stop} → f ≡ stop countOverLargest at → CountAt bytes optional largest at (Wrong f)
   unfolding readCount presence
-  count-over p h y rows members handles = (simp (← counted, ← said, p, lt-leb _ _ h, y), rw y (omega arith))
+  count-over p h y t handles = (simp (← counted, ← said, p, lt-leb _ _ h, y), rw y (omega arith))
 
   pub count-present : says ≡ ones64 → count ≤ largest → CountAt bytes optional largest at (Present count)
   unfolding readCount presence
-  count-present p h rows members handles = (simp (← counted, ← said, p, le-leb _ _ h), tt)
+  count-present p h t handles = (simp (← counted, ← said, p, le-leb _ _ h), tt)
 
   pub count-neither : (says ≡ 0 → ⊥) → (says ≡ ones64 → ⊥) → {f : Stop} → f ≡ stop presenceWrong at → CountAt bytes optional largest at (Wrong f)
   unfolding readCount presence
-  count-neither p q y rows members handles = (simp (← counted, ← said, ne-eqb _ _ p, ne-eqb _ _ q, y), rw y (omega arith))
+  count-neither p q y t handles = (simp (← counted, ← said, ne-eqb _ _ p, ne-eqb _ _ q, y), rw y (omega arith))
 
 -- A count that is present is not over the largest, so its elements have fewer than 2^48 bytes.
 module _ (bytes : List ℕ) (optional largest at : ℕ) (k : Count) (reads : CountAt bytes optional largest at k) {count : ℕ} (is : k ≡ Present count) where
   count-bounded : count ≤ largest
   unfolding readCount
-  count-bounded = go (presence ones64 (word bytes (at + 8) 8)) (rw is at (reads [] [] 0 .0))
+  count-bounded = go (presence ones64 (word bytes (at + 8) 8)) (rw is at (reads someTable 0 .0))
     where
       not-absent : (o z : Bool) → got (suc count) ≡ readIf (unless requiredAbsent o) at (readIf (unless absentNotZero z) at (got 0)) → ⊥
       not-absent true true y = let w : _≡_ {A = ℕ} 0 1 = cc in omega arith
@@ -94,40 +96,40 @@ module _ (bytes : List ℕ) (optional largest at : ℕ) (k : Count) (reads : Cou
 -- ---- what it leads to
 
 module _ (bytes : List ℕ) (handles depth : ℕ) (values objects : List ℕ) (at : ℕ) (c : Cursor) (row size largest optional : ℕ) (k : Count) (reads : CountAt bytes optional largest at k) where
-  read : (rows members : List ℕ) {is : Count} → k ≡ is → readCount (message rows members bytes handles) (eqb optional 1) largest at ≡ countOf is
-  read rows members h = rw h at (sym (reads rows members handles .0))
+  read : (t : TypeTable) {is : Count} → k ≡ is → readCount (message t bytes handles) (eqb optional 1) largest at ≡ countOf is
+  read t h = rw h at (sym (reads t handles .0))
 
   pub counted-closed : Ask (length bytes) handles 16 at c → {values′ : List ℕ} {d : Cursor} → k ≡ Absent → values′ ≡ set values (c .values) 0 → d ≡ gaveOne c
       → CountedOpens bytes handles depth values values′ objects objects at c row size largest optional (Closed d)
-  counted-closed ask is e g rows members fields =
-      rw (e, g, record-got 16 _ _ at (c .next) (c .handles) (read rows members is)) (did-one 0 (omega arith) (ask .free) (ask .held))
+  counted-closed ask is e g t fields =
+      rw (e, g, record-got 16 _ _ at (c .next) (c .handles) (read t is)) (did-one 0 (omega arith) (ask .free) (ask .held))
 
   pub counted-refused : {f : Stop} → k ≡ Wrong f → CountedOpens bytes handles depth values values objects objects at c row size largest optional (Refused f)
-  counted-refused is rows members fields = rw (record-wrong 16 _ _ at (c .next) (c .handles) (read rows members is)) (did-stop (rw is at (reads rows members handles .1)))
+  counted-refused is t fields = rw (record-wrong 16 _ _ at (c .next) (c .handles) (read t is)) (did-stop (rw is at (reads t handles .1)))
 
-  counted-whole : (count : ℕ) (rows members : List ℕ) (fields : (count : ℕ) → (ℕ → Decoder) → D.Deeper → Decoder) → k ≡ Present count
-      → countedAt (message rows members bytes handles) depth row size largest (eqb optional 1) fields at (c .next) (c .handles)
-      ≡ D.after ((count + 1) ∷ []) [] (D.oneDeeper (W.levels (message rows members bytes handles) depth) at
-      (λ deep below. D.claim (message rows members bytes handles) vectorObject row (count * size) (fields count deep below)) at (c .next) (c .handles))
-  counted-whole count rows members fields is =
-      let m = message rows members bytes handles in
-      record-got 16 _ _ at (c .next) (c .handles) (read rows members is)
+  counted-whole : (count : ℕ) (t : TypeTable) (fields : (count : ℕ) → (ℕ → Decoder) → D.Deeper → Decoder) → k ≡ Present count
+      → countedAt (message t bytes handles) depth row size largest (eqb optional 1) fields at (c .next) (c .handles)
+      ≡ D.after ((count + 1) ∷ []) [] (D.oneDeeper (W.levels (message t bytes handles) depth) at
+      (λ deep below. D.claim (message t bytes handles) vectorObject row (count * size) (fields count deep below)) at (c .next) (c .handles))
+  counted-whole count t fields is =
+      let m = message t bytes handles in
+      record-got 16 _ _ at (c .next) (c .handles) (read t is)
       ∙ rw (add-one, deeper-anywhere m vectorObject row (count * size) (W.levels m depth) at (fields count) (at + 16) at)
 
   pub counted-opened : (count : ℕ) {values′ : List ℕ} (objects′ : List ℕ) {d : Cursor} (r : Opened) → k ≡ Present count → values′ ≡ set values (c .values) (count + 1) → d ≡ gaveOne c
       → DeeperOpens bytes handles depth objects objects′ at d vectorObject row (count * size) r → HasCount count r
       → CountedOpens bytes handles depth values values′ objects objects′ at c row size largest optional r
-  counted-opened count objects′ r is e g opens has rows members fields =
+  counted-opened count objects′ r is e g opens has t fields =
       let given = set values (c .values) (count + 1) in
-      rw (e, counted-whole count rows members fields is)
+      rw (e, counted-whole count t fields is)
       (opens-same (length bytes) handles values given objects objects′ c _ 16 count (λ x h. rw h) (λ x h. rw h) r has
-      (opens-put (length bytes) handles values given objects objects′ c _ 4 16 (count + 1) _ _ r (omega arith) (rw g at (opens rows members given (fields count)))))
+      (opens-put (length bytes) handles values given objects objects′ c _ 4 16 (count + 1) _ _ r (omega arith) (rw g at (opens t given (fields count)))))
 
 -- What lies in the object, once it is open.
 pub counted-ask : (bytes : List ℕ) (handles depth : ℕ) (values values′ objects objects′ : List ℕ) (at : ℕ) (c : Cursor) (row size largest optional : ℕ) (r : Opened)
     → CountedOpens bytes handles depth values values′ objects objects′ at c row size largest optional r → {x : Opening} → r ≡ Open x
     → Ask (length bytes) handles (x .count * size) (x .start) (x .cursor)
-counted-ask bytes handles depth values values′ objects objects′ at c row size largest optional r opens h = (rw h at (opens [] [] (λ count rows below. D.nothing))) .0
+counted-ask bytes handles depth values values′ objects objects′ at c row size largest optional r opens h = (rw h at (opens someTable (λ count rows below. D.nothing))) .0
 
 -- ---- a vector's elements
 
@@ -139,8 +141,8 @@ after-vector m depth row element size at p n u (suc count) e = rw e
 pub vector-opens : (bytes : List ℕ) (handles depth : ℕ) (values values′ objects objects′ : List ℕ) (at : ℕ) (c : Cursor) (row size largest optional : ℕ) (r : Opened)
     → CountedOpens bytes handles depth values values′ objects objects′ at c row size largest optional r
     → VectorOpens bytes handles depth values values′ objects objects′ at c row size largest optional r
-vector-opens bytes handles depth values values′ objects objects′ at c row size largest optional r opens rows members element sized =
-    let m = message rows members bytes handles in
+vector-opens bytes handles depth values values′ objects objects′ at c row size largest optional r opens t element sized =
+    let m = message t bytes handles in
     let same = record-same 16 (readCount m (eqb optional 1) largest) (W.afterVector m (W.levels m depth) row element) at (c .next) (c .handles) _
     (λ v. after-vector m depth row element size at (at + 16) (c .next) (c .handles) v sized) in
-    rw same (opens rows members (λ count deep below. D.elements size (λ i. deep element) 0 count))
+    rw same (opens t (λ count deep below. D.elements size (λ i. deep element) 0 count))

@@ -16,6 +16,7 @@ use Rattle.rules.specs.Decode as D
 use Rattle.rules.specs.Decode.{Message, Decoded, stopped, Decoder, ReadRecord, got, wrong}
 use Rattle.rules.specs.Walk as W
 use Rattle.rules.proofs.Bytes.{padded-above}
+use Rattle.nesting.specs.Ready.{someTable}
 use Rattle.walk_leaves.specs.declared.cursor.Cursor.{Cursor}
 use Rattle.walk_leaves.specs.declared.cursor.Stop.{Stop}
 use Rattle.walk_leaves.specs.declared.cursor.Walked.{Walked}
@@ -72,14 +73,14 @@ module _ (m : Message) (kind row size : ℕ) where
 
 module _ (bytes : List ℕ) (handles depth : ℕ) (objects : List ℕ) (at : ℕ) (c : Cursor) (kind row size : ℕ) where
   pub deeper-spent : {f : Stop} → depth ≡ 0 → f ≡ stop tooDeep at → DeeperOpens bytes handles depth objects objects at c kind row size (Refused f)
-  deeper-spent h e rows members values fields = rw (e, levels-spent (message rows members bytes handles) depth h) (did-stop (omega arith))
+  deeper-spent h e t values fields = rw (e, levels-spent (message t bytes handles) depth h) (did-stop (omega arith))
 
   module _ {objects′ : List ℕ} {w : Walked} (down : depth ≡ 0 → ⊥) (ask : Ask (length bytes) handles 4 at c) (claims : DidObjects bytes objects objects′ 4 0 c w (claimAt kind row size)) where
     pub deeper-opened : (count : ℕ) {d : Cursor} → w ≡ On d → DeeperOpens bytes handles depth objects objects′ at c kind row size (Open (record { count = count; start = c .next; cursor = d }))
-    deeper-opened count {d} e rows members values fields =
-        let m = message rows members bytes handles in
+    deeper-opened count {d} e t values fields =
+        let m = message t bytes handles in
         let did : Did (length bytes) handles 4 values values objects objects′ c (On d) (claimAt kind row size m 0 (c .next) (c .handles)) =
-        rw e at (claims rows members values handles (ask .free) (ask .held))
+        rw e at (claims t values handles (ask .free) (ask .held))
         in
         let took = claim-on m kind row size 0 did in
         let ends = padded-above size in (
@@ -98,14 +99,14 @@ module _ (bytes : List ℕ) (handles depth : ℕ) (objects : List ℕ) (at : ℕ
         )
 
     pub deeper-refused : {f : Stop} → w ≡ Walked.Refused f → DeeperOpens bytes handles depth objects objects′ at c kind row size (Refused f)
-    deeper-refused e rows members values fields =
-        let m = message rows members bytes handles in
-        rw (levels-down m depth down, claim-then m kind row size, claim-anywhere m kind row size at 0) (did-halt 4 _ (rw e at (claims rows members values handles (ask .free) (ask .held))))
+    deeper-refused e t values fields =
+        let m = message t bytes handles in
+        rw (levels-down m depth down, claim-then m kind row size, claim-anywhere m kind row size at 0) (did-halt 4 _ (rw e at (claims t values handles (ask .free) (ask .held))))
 
 -- What lies in an object that is open, after a claim,
 pub deeper-ask : (bytes : List ℕ) (handles depth : ℕ) (objects objects′ : List ℕ) (at : ℕ) (c : Cursor) (kind row size : ℕ) (r : Opened)
     → DeeperOpens bytes handles depth objects objects′ at c kind row size r → {x : Opening} → r ≡ Open x → Ask (length bytes) handles size (x .start) (x .cursor)
-deeper-ask bytes handles depth objects objects′ at c kind row size r opens h = (rw h at (opens [] [] [] (λ rows below. D.nothing))) .0
+deeper-ask bytes handles depth objects objects′ at c kind row size r opens h = (rw h at (opens someTable [] (λ rows below. D.nothing))) .0
 
 -- and before one, after a value number.
 pub ask-gave : {total handles at : ℕ} (need : ℕ) {c d : Cursor} → Ask total handles need at c → 5 ≤ need → d ≡ gaveOne c → Ask total handles 4 at d

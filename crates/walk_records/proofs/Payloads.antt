@@ -10,7 +10,7 @@ use lib.ListN.{length}
 use Rattle.rules.specs.declared.Place.the-variants.{Byte}
 use Rattle.rules.specs.Refusals.{fault, tooDeep, envelopeFormWrong, envelopeNumberWrong, fillNotZero}
 use Rattle.rules.specs.Bytes.{part, word, leadingZeros}
-use Rattle.rules.specs.TypeTable.{typeTable, known}
+use Rattle.rules.specs.TypeTable.{TypeTable, known}
 use Rattle.rules.specs.Sizes.{sizeOf}
 use Rattle.rules.specs.Trace.{payloadObject}
 use Rattle.rules.specs.Decode as D
@@ -34,26 +34,26 @@ use Rattle.walk_records.proofs.Zeros.{zeros-at-most}
 
 -- ---- after the payload
 
-module _ (rows members bytes values objects : List ℕ) (handles at used : ℕ) (c : Cursor) {number : ℕ} (e : number ≡ word bytes (at + 4) 2) where
+module _ (t : TypeTable) (bytes values objects : List ℕ) (handles at used : ℕ) (c : Cursor) {number : ℕ} (e : number ≡ word bytes (at + 4) 2) where
   pub handles-right : number ≡ c .handles - used → c .next ≤ length bytes → c .handles ≤ handles
-      → Did (length bytes) handles 0 values values objects objects c (On c) (handlesSealed (message rows members bytes handles) at used (c .next) (c .handles))
+      → Did (length bytes) handles 0 values values objects objects c (On c) (handlesSealed (message t bytes handles) at used (c .next) (c .handles))
   handles-right q h k = rw (← e, eq-eqb _ _ q) (did-nothing h k)
 
   pub handles-wrong : {r : Walked} → (number ≡ c .handles - used → ⊥) → r ≡ Refused (stop envelopeNumberWrong at)
-      → Did (length bytes) handles 0 values values objects objects c r (handlesSealed (message rows members bytes handles) at used (c .next) (c .handles))
+      → Did (length bytes) handles 0 values values objects objects c r (handlesSealed (message t bytes handles) at used (c .next) (c .handles))
   handles-wrong n y = rw (← e, ne-eqb _ _ n, y) (did-stop (omega arith))
 
-module _ (rows members bytes values objects : List ℕ) (handles size at next used : ℕ) (c : Cursor) {r : Walked} where
+module _ (t : TypeTable) (bytes values objects : List ℕ) (handles size at next used : ℕ) (c : Cursor) {r : Walked} where
   -- in line,
   module _ {zeros : ℕ} (small : size ≤ 4) (e : zeros ≡ leadingZeros (part bytes (at + size) (4 - size))) where
     pub fill-wrong : zeros < 4 - size → r ≡ Refused (stop fillNotZero (at + size + zeros))
-        → Did (length bytes) handles 0 values values objects objects c r (sealedAt (message rows members bytes handles) size at next used (c .next) (c .handles))
+        → Did (length bytes) handles 0 values values objects objects c r (sealedAt (message t bytes handles) size at next used (c .next) (c .handles))
     unfolding sealedAt D.fill
     fill-wrong h y = rw (le-leb _ _ small, ← e, ne-eqb zeros (4 - size) (λ q. omega arith), y) (did-stop (omega arith))
 
     pub fill-right : 4 - size ≤ zeros
-        → Did (length bytes) handles 0 values values objects objects c r (handlesSealed (message rows members bytes handles) at used (c .next) (c .handles))
-        → Did (length bytes) handles 0 values values objects objects c r (sealedAt (message rows members bytes handles) size at next used (c .next) (c .handles))
+        → Did (length bytes) handles 0 values values objects objects c r (handlesSealed (message t bytes handles) at used (c .next) (c .handles))
+        → Did (length bytes) handles 0 values values objects objects c r (sealedAt (message t bytes handles) size at next used (c .next) (c .handles))
     unfolding sealedAt D.fill
     fill-right h d =
         let q : zeros ≡ 4 - size = omega (arith, zeros-at-most bytes (at + size) (4 - size)) in
@@ -62,13 +62,13 @@ module _ (rows members bytes values objects : List ℕ) (handles size at next us
   -- and out of line.
   module _ {number : ℕ} (large : 4 < size) (e : number ≡ word bytes at 4) where
     pub bytes-wrong : (number ≡ c .next - next → ⊥) → r ≡ Refused (stop envelopeNumberWrong at)
-        → Did (length bytes) handles 0 values values objects objects c r (sealedAt (message rows members bytes handles) size at next used (c .next) (c .handles))
+        → Did (length bytes) handles 0 values values objects objects c r (sealedAt (message t bytes handles) size at next used (c .next) (c .handles))
     unfolding sealedAt
     bytes-wrong n y = rw (lt-leb _ _ large, ← e, ne-eqb _ _ n, y) (did-stop (omega arith))
 
     pub bytes-right : number ≡ c .next - next
-        → Did (length bytes) handles 0 values values objects objects c r (handlesSealed (message rows members bytes handles) at used (c .next) (c .handles))
-        → Did (length bytes) handles 0 values values objects objects c r (sealedAt (message rows members bytes handles) size at next used (c .next) (c .handles))
+        → Did (length bytes) handles 0 values values objects objects c r (handlesSealed (message t bytes handles) at used (c .next) (c .handles))
+        → Did (length bytes) handles 0 values values objects objects c r (sealedAt (message t bytes handles) size at next used (c .next) (c .handles))
     unfolding sealedAt
     bytes-right q d = rw (lt-leb _ _ large, ← e, eq-eqb _ _ q) d
 
@@ -116,64 +116,64 @@ module _ (m : Message) (below : D.Deeper) (row payload : ℕ) {size : ℕ} (at n
           ∙ rw after-none
 
 -- A known payload's envelope, under a message's bytes and handle count.
-abbrev knownAt : (rows members bytes : List ℕ) (handles depth row payload at : ℕ) → Cursor → Decoded
-knownAt rows members bytes handles depth row payload at c =
-    contentOfEightBytes (message rows members bytes handles) (W.levels (message rows members bytes handles) depth) row (known payload) at (c .next) (c .handles)
+abbrev knownAt : (t : TypeTable) (bytes : List ℕ) (handles depth row payload at : ℕ) → Cursor → Decoded
+knownAt t bytes handles depth row payload at c =
+    contentOfEightBytes (message t bytes handles) (W.levels (message t bytes handles) depth) row (known payload) at (c .next) (c .handles)
 
-module _ (rows members bytes values objects : List ℕ) (handles depth row payload : ℕ) {size : ℕ} (at : ℕ) (c : Cursor) {form : ℕ}
-    (e : sizeOf (typeTable rows members) payload ≡ size) (q : form ≡ word bytes (at + 6) 2) where
+module _ (t : TypeTable) (bytes values objects : List ℕ) (handles depth row payload : ℕ) {size : ℕ} (at : ℕ) (c : Cursor) {form : ℕ}
+    (e : sizeOf t payload ≡ size) (q : form ≡ word bytes (at + 6) 2) where
   in-line : size ≤ 4
-      → knownAt rows members bytes handles depth row payload at c
+      → knownAt t bytes handles depth row payload at c
       ≡ D.require (eqb form inLine) (fault envelopeFormWrong (Byte at))
-      (D.andThen (D.oneDeeper (W.levels (message rows members bytes handles) depth) at (λ F b. F payload) at (c .next) (c .handles))
-      (λ n u. sealedAt (message rows members bytes handles) size at (c .next) (c .handles) n u))
-  in-line h = rw q (known-in-line (message rows members bytes handles) (W.levels (message rows members bytes handles) depth) row payload at (c .next) (c .handles) e h)
+      (D.andThen (D.oneDeeper (W.levels (message t bytes handles) depth) at (λ F b. F payload) at (c .next) (c .handles))
+      (λ n u. sealedAt (message t bytes handles) size at (c .next) (c .handles) n u))
+  in-line h = rw q (known-in-line (message t bytes handles) (W.levels (message t bytes handles) depth) row payload at (c .next) (c .handles) e h)
 
   pub in-line-wrong : {f : Stop} → size ≤ 4 → (form ≡ inLine → ⊥) → f ≡ stop envelopeFormWrong at
-      → Did (length bytes) handles 7 values values objects objects c (Refused f) (knownAt rows members bytes handles depth row payload at c)
+      → Did (length bytes) handles 7 values values objects objects c (Refused f) (knownAt t bytes handles depth row payload at c)
   in-line-wrong h k y = rw (in-line h, ne-eqb _ _ k, y) (did-stop (omega arith))
 
   pub in-line-too-deep : {f : Stop} → size ≤ 4 → form ≡ inLine → depth ≡ 0 → f ≡ stop tooDeep at
-      → Did (length bytes) handles 7 values values objects objects c (Refused f) (knownAt rows members bytes handles depth row payload at c)
+      → Did (length bytes) handles 7 values values objects objects c (Refused f) (knownAt t bytes handles depth row payload at c)
   in-line-too-deep h k d y = rw (in-line h, eq-eqb _ _ k, levels-spent _ depth d, y) (did-stop (omega arith))
 
   pub in-line-open : size ≤ 4 → form ≡ inLine → (depth ≡ 0 → ⊥) → Ask (length bytes) handles 7 at c
-      → Opens (length bytes) handles 7 values values objects objects c (knownAt rows members bytes handles depth row payload at c)
-      (λ x. size) (payloadOf (message rows members bytes handles) depth payload size at (c .next) (c .handles)) (Open (record { count = 1; start = at; cursor = c }))
+      → Opens (length bytes) handles 7 values values objects objects c (knownAt t bytes handles depth row payload at c)
+      (λ x. size) (payloadOf (message t bytes handles) depth payload size at (c .next) (c .handles)) (Open (record { count = 1; start = at; cursor = c }))
   in-line-open h k d a =
       rw (in-line h, eq-eqb _ _ k, levels-down _ depth d)
       (record { short = a .short; few = a .few; inside = omega arith; free = a .free; held = a .held; small = omega arith }, λ v o r p. did-more 7 (omega arith) p, (omega arith, omega arith))
 
   out-of-line : 4 < size
-      → knownAt rows members bytes handles depth row payload at c
+      → knownAt t bytes handles depth row payload at c
       ≡ D.require (eqb form outOfLine) (fault envelopeFormWrong (Byte at))
-      (D.oneDeeper (W.levels (message rows members bytes handles) depth) at
-      (λ F b. D.claim (message rows members bytes handles) payloadObject payload size
-      (λ at′ n u. D.andThen (F payload at′ n u) (λ n′ u′. sealedAt (message rows members bytes handles) size at (c .next) (c .handles) n′ u′))) at (c .next) (c .handles))
+      (D.oneDeeper (W.levels (message t bytes handles) depth) at
+      (λ F b. D.claim (message t bytes handles) payloadObject payload size
+      (λ at′ n u. D.andThen (F payload at′ n u) (λ n′ u′. sealedAt (message t bytes handles) size at (c .next) (c .handles) n′ u′))) at (c .next) (c .handles))
   out-of-line h =
       rw q
-      (known-out-of-line (message rows members bytes handles) (W.levels (message rows members bytes handles) depth) row payload at (c .next) (c .handles) e h
-      ∙ rw (deeper-followed (message rows members bytes handles) payloadObject payload size payload))
+      (known-out-of-line (message t bytes handles) (W.levels (message t bytes handles) depth) row payload at (c .next) (c .handles) e h
+      ∙ rw (deeper-followed (message t bytes handles) payloadObject payload size payload))
 
   pub out-of-line-wrong : {f : Stop} → 4 < size → (form ≡ outOfLine → ⊥) → f ≡ stop envelopeFormWrong at
-      → Did (length bytes) handles 7 values values objects objects c (Refused f) (knownAt rows members bytes handles depth row payload at c)
+      → Did (length bytes) handles 7 values values objects objects c (Refused f) (knownAt t bytes handles depth row payload at c)
   out-of-line-wrong h k y = rw (out-of-line h, ne-eqb _ _ k, y) (did-stop (omega arith))
 
   pub out-of-line-open : (objects′ : List ℕ) (r : Opened) → 4 < size → form ≡ outOfLine → DeeperOpens bytes handles depth objects objects′ at c payloadObject payload size r
-      → Opens (length bytes) handles 7 values values objects objects′ c (knownAt rows members bytes handles depth row payload at c)
-      (λ x. size) (payloadOf (message rows members bytes handles) depth payload size at (c .next) (c .handles)) r
-  out-of-line-open objects′ r h k p = rw (out-of-line h, eq-eqb _ _ k) (more r (p rows members values fields))
+      → Opens (length bytes) handles 7 values values objects objects′ c (knownAt t bytes handles depth row payload at c)
+      (λ x. size) (payloadOf (message t bytes handles) depth payload size at (c .next) (c .handles)) r
+  out-of-line-open objects′ r h k p = rw (out-of-line h, eq-eqb _ _ k) (more r (p t values fields))
     where
       fields : (ℕ → Decoder) → D.Deeper → Decoder
-      fields F b at′ n u = D.andThen (F payload at′ n u) (λ n′ u′. sealedAt (message rows members bytes handles) size at (c .next) (c .handles) n′ u′)
+      fields F b at′ n u = D.andThen (F payload at′ n u) (λ n′ u′. sealedAt (message t bytes handles) size at (c .next) (c .handles) n′ u′)
 
       more : (r : Opened)
           → Opens (length bytes) handles 4 values values objects objects′ c
-          (D.oneDeeper (W.levels (message rows members bytes handles) depth) at (λ F b. D.claim (message rows members bytes handles) payloadObject payload size (fields F b)) at (c .next) (c .handles))
-          (λ x. size) (payloadOf (message rows members bytes handles) depth payload size at (c .next) (c .handles)) r
+          (D.oneDeeper (W.levels (message t bytes handles) depth) at (λ F b. D.claim (message t bytes handles) payloadObject payload size (fields F b)) at (c .next) (c .handles))
+          (λ x. size) (payloadOf (message t bytes handles) depth payload size at (c .next) (c .handles)) r
           → Opens (length bytes) handles 7 values values objects objects′ c
-          (D.oneDeeper (W.levels (message rows members bytes handles) depth) at (λ F b. D.claim (message rows members bytes handles) payloadObject payload size (fields F b)) at (c .next) (c .handles))
-          (λ x. size) (payloadOf (message rows members bytes handles) depth payload size at (c .next) (c .handles)) r
+          (D.oneDeeper (W.levels (message t bytes handles) depth) at (λ F b. D.claim (message t bytes handles) payloadObject payload size (fields F b)) at (c .next) (c .handles))
+          (λ x. size) (payloadOf (message t bytes handles) depth payload size at (c .next) (c .handles)) r
       more (Closed d) s = did-more 7 (omega arith) s
       more (Opened.Refused f) s = did-more 7 (omega arith) s
       more (Open x) s = (s .0, λ v o w d. did-more 7 (omega arith) (s .1 v o w d), s .2)

@@ -73,14 +73,14 @@ string-counted m depth row largest optional at n u =
 module _ (bytes : List ℕ) (handles depth : ℕ) (values values′ objects objects′ : List ℕ) (at : ℕ) (c : Cursor) (row largest optional : ℕ) (r : Opened)
     (opens : CountedOpens bytes handles depth values values′ objects objects′ at c row 1 largest optional r) where
   pub string-closed : {e : Cursor} → r ≡ Closed e → StringDid bytes handles depth values values′ objects objects′ at c row largest optional (On e)
-  string-closed h rows members =
-      let m = message rows members bytes handles in
-      rw (string-counted m depth row largest (eqb optional 1) at) (rw h at (opens rows members (textOf m at)))
+  string-closed h t =
+      let m = message t bytes handles in
+      rw (string-counted m depth row largest (eqb optional 1) at) (rw h at (opens t (textOf m at)))
 
   pub string-refused : {f : Stop} → r ≡ Opened.Refused f → StringDid bytes handles depth values values′ objects objects′ at c row largest optional (Refused f)
-  string-refused h rows members =
-      let m = message rows members bytes handles in
-      rw (string-counted m depth row largest (eqb optional 1) at) (rw h at (opens rows members (textOf m at)))
+  string-refused h t =
+      let m = message t bytes handles in
+      rw (string-counted m depth row largest (eqb optional 1) at) (rw h at (opens t (textOf m at)))
 
   -- What the text's numbers ask for.
   module _ {x : Opening} (opened : r ≡ Open x) where
@@ -94,14 +94,14 @@ module _ (bytes : List ℕ) (handles depth : ℕ) (values values′ objects obje
     string-judged : (holds : Bool) {text : Bool} → text ≡ isUtf8 (part bytes (x .start) (x .count)) → text ≡ holds
         → StringDid bytes handles depth values values″ objects objects′ at c row largest optional (judged holds e (stop textNotUtf8 at))
     unfolding numbersAt textOf D.checked
-    string-judged holds t h rows members =
-        let m = message rows members bytes handles in
-        let o = rw opened at (opens rows members (textOf m at)) in
+    string-judged holds text h t =
+        let m = message t bytes handles in
+        let o = rw opened at (opens t (textOf m at)) in
         let inside : x .start + x .count ≤ length bytes = omega (arith, o .0 .inside) in
         rw (string-counted m depth row largest (eqb optional 1) at)
         (o .1 values″ objects′ _
         (did-more (x .count * 1) (omega arith)
-        (did-checked isUtf8 (stop textNotUtf8 at) holds (omega arith) (numbers-bytes m 0 (x .count) (x .start) _ _ inside) (sym t ∙ h) (given rows members objects′ handles (o .0 .free) (o .0 .held)))))
+        (did-checked isUtf8 (stop textNotUtf8 at) holds (omega arith) (numbers-bytes m 0 (x .count) (x .start) _ _ inside) (sym text ∙ h) (given t objects′ handles (o .0 .free) (o .0 .held)))))
 
     pub string-text : {text : Bool} → text ≡ isUtf8 (part bytes (x .start) (x .count)) → text ≡ true → StringDid bytes handles depth values values″ objects objects′ at c row largest optional (On e)
     unfolding judged
@@ -110,4 +110,4 @@ module _ (bytes : List ℕ) (handles depth : ℕ) (values values′ objects obje
     pub string-not-text : {w : Walked} {text : Bool} → text ≡ isUtf8 (part bytes (x .start) (x .count)) → text ≡ false → w ≡ Refused (stop textNotUtf8 at)
         → StringDid bytes handles depth values values″ objects objects′ at c row largest optional w
     unfolding judged
-    string-not-text t h y = rw y (string-judged false t h)
+    string-not-text text h y = rw y (string-judged false text h)

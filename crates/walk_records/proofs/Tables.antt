@@ -13,13 +13,14 @@ use lib.ListN.{length, set}
 use Rattle.rules.specs.declared.Place.the-variants.{Byte}
 use Rattle.rules.specs.Refusals.{fault, tooDeep, objectDoesNotFit, presenceWrong, requiredAbsent, lastEnvelopeZero}
 use Rattle.rules.specs.Bytes.{word, ones64}
-use Rattle.rules.specs.TypeTable.{Content, envelopeSize, eightByteEnvelopes}
+use Rattle.rules.specs.TypeTable.{TypeTable, eightByteEnvelopes, Content}
 use Rattle.rules.specs.Trace.{envelopesObject}
 use Rattle.rules.specs.Decode as D
 use Rattle.rules.specs.Decode.{Message, Decoder, got, wrong}
 use Rattle.rules.specs.Records.{presence, readTable}
-use Rattle.rules.specs.Envelope.{decodeContent}
+use Rattle.rules.specs.Envelope.{contentOfEightBytes}
 use Rattle.rules.specs.Walk as W
+use Rattle.nesting.proofs.Edition.{envelope-size, content-read}
 use Rattle.walk_leaves.specs.declared.cursor.Cursor.{Cursor}
 use Rattle.walk_leaves.specs.declared.cursor.Stop.{Stop}
 use Rattle.walk_leaves.specs.declared.cursor.Walked.{Walked}
@@ -68,30 +69,30 @@ last-judged m size (suc count) envelopes at n u h = let e : suc count - 1 ≡ co
 
 module _ (bytes : List ℕ) (handles depth : ℕ) (objects : List ℕ) (at : ℕ) (c : Cursor) (row count : ℕ) where
   pub envelopes-spent : {f : Stop} → depth ≡ 0 → f ≡ stop tooDeep at → EnvelopesOpen bytes handles depth objects objects at c row count (Refused f)
-  envelopes-spent h e rows members values envelopes = deeper-spent bytes handles depth objects at c envelopesObject row (count * 8) h e rows members values _
+  envelopes-spent h e t values envelopes = deeper-spent bytes handles depth objects at c envelopesObject row (count * 8) h e t values _
 
   -- So many fit in no message.
   pub envelopes-over : {f : Stop} → (depth ≡ 0 → ⊥) → Ask (length bytes) handles 4 at c → 8192 < count → f ≡ stop objectDoesNotFit (c .next)
       → EnvelopesOpen bytes handles depth objects objects at c row count (Refused f)
-  envelopes-over h ask over e rows members values envelopes =
-      let m = message rows members bytes handles in
+  envelopes-over h ask over e t values envelopes =
+      let m = message t bytes handles in
       let longer : length bytes < count * 8 = omega arith in
       rw (e, levels-down m depth h, claim-over m envelopesObject row (count * 8) _ at (c .next) (c .handles) longer) (did-stop (omega arith))
 
   module _ (objects′ : List ℕ) (r : Opened) (opens : DeeperOpens bytes handles depth objects objects′ at c envelopesObject row (count * 8) r) where
-    judged : (rows members values : List ℕ) (envelopes : D.Deeper → Decoder)
+    judged : (t : TypeTable) (values : List ℕ) (envelopes : D.Deeper → Decoder)
         → Opens (length bytes) handles 4 values values objects objects′ c
-        (D.oneDeeper (W.levels (message rows members bytes handles) depth) at
-        (λ F b. D.claim (message rows members bytes handles) envelopesObject row (count * 8) (D.lastPresent (message rows members bytes handles) 8 count (envelopes b))) at (c .next) (c .handles))
+        (D.oneDeeper (W.levels (message t bytes handles) depth) at
+        (λ F b. D.claim (message t bytes handles) envelopesObject row (count * 8) (D.lastPresent (message t bytes handles) 8 count (envelopes b))) at (c .next) (c .handles))
         (λ x. count * 8)
-        (λ x. D.lastPresent (message rows members bytes handles) 8 count (envelopes (W.levels (message rows members bytes handles) (depth - 1))) (x .start) (x .cursor .next) (x .cursor .handles)) r
-    judged rows members values envelopes = opens rows members values (λ F b. D.lastPresent (message rows members bytes handles) 8 count (envelopes b))
+        (λ x. D.lastPresent (message t bytes handles) 8 count (envelopes (W.levels (message t bytes handles) (depth - 1))) (x .start) (x .cursor .next) (x .cursor .handles)) r
+    judged t values envelopes = opens t values (λ F b. D.lastPresent (message t bytes handles) 8 count (envelopes b))
 
     pub envelopes-closed : {e : Cursor} → r ≡ Closed e → EnvelopesOpen bytes handles depth objects objects′ at c row count (Closed e)
-    envelopes-closed h rows members values envelopes = rw h at (judged rows members values envelopes)
+    envelopes-closed h t values envelopes = rw h at (judged t values envelopes)
 
     pub envelopes-refused : {f : Stop} → r ≡ Refused f → EnvelopesOpen bytes handles depth objects objects′ at c row count (Refused f)
-    envelopes-refused h rows members values envelopes = rw h at (judged rows members values envelopes)
+    envelopes-refused h t values envelopes = rw h at (judged t values envelopes)
 
     module _ {x : Opening} (opened : r ≡ Open x) where
       pub last-fits : Fits w64 (x .start + (count - 1) * 8)
@@ -99,22 +100,22 @@ module _ (bytes : List ℕ) (handles depth : ℕ) (objects : List ℕ) (at : ℕ
 
       pub envelopes-last-zero : {f : Stop} {last : ℕ} → 0 < count → last ≡ word bytes (x .start + (count - 1) * 8) 8 → last ≡ 0
           → f ≡ stop lastEnvelopeZero (x .start + (count - 1) * 8) → EnvelopesOpen bytes handles depth objects objects′ at c row count (Refused f)
-      envelopes-last-zero {f} some loaded z e rows members values envelopes =
-          let m = message rows members bytes handles in
-          let o = rw opened at (judged rows members values envelopes) in
+      envelopes-last-zero {f} some loaded z e t values envelopes =
+          let m = message t bytes handles in
+          let o = rw opened at (judged t values envelopes) in
           let inside : x .start + (count - 1) * 8 + 8 ≤ length bytes = omega (arith, o .0 .inside) in
           let zeros = zero-word (m .bytes) (x .start + (count - 1) * 8) 8 inside (sym loaded ∙ z) in
           o .1 values objects′ (Walked.Refused f) (rw (e, last-judged m 8 count, zeros) (did-stop (omega arith)))
 
       pub envelopes-none : count ≤ 0 → EnvelopesOpen bytes handles depth objects objects′ at c row count (Open x)
-      envelopes-none none rows members values envelopes =
-          rw (last-none (message rows members bytes handles) 8 count) at (rw opened at (judged rows members values envelopes))
+      envelopes-none none t values envelopes =
+          rw (last-none (message t bytes handles) 8 count) at (rw opened at (judged t values envelopes))
 
       pub envelopes-last-present : {last : ℕ} → 0 < count → last ≡ word bytes (x .start + (count - 1) * 8) 8 → (last ≡ 0 → ⊥)
           → EnvelopesOpen bytes handles depth objects objects′ at c row count (Open x)
-      envelopes-last-present some loaded z rows members values envelopes =
-          let m = message rows members bytes handles in
-          let o = rw opened at (judged rows members values envelopes) in
+      envelopes-last-present some loaded z t values envelopes =
+          let m = message t bytes handles in
+          let o = rw opened at (judged t values envelopes) in
           let inside : x .start + (count - 1) * 8 + 8 ≤ length bytes = omega (arith, o .0 .inside) in
           let stands = nonzero-word (m .bytes) (x .start + (count - 1) * 8) 8 inside (λ e. z (loaded ∙ e)) in
           rw (last-judged m 8 count, stands) at o
@@ -123,36 +124,36 @@ module _ (bytes : List ℕ) (handles depth : ℕ) (objects : List ℕ) (at : ℕ
 
 envelopesIn : Message → (row : ℕ) → (ℕ → Content) → (count : ℕ) → D.Deeper → Decoder
 envelopesIn m row content count below =
-    D.elements 8 (λ ordinal. D.optionalEnvelope m 8 (eqb ordinal count) (decodeContent eightByteEnvelopes m below row (content ordinal))) 1 count
+    D.elements 8 (λ ordinal. D.optionalEnvelope m 8 (eqb ordinal count) (contentOfEightBytes m below row (content ordinal))) 1 count
 
 module _ (bytes : List ℕ) (handles depth : ℕ) (values objects : List ℕ) (at : ℕ) (c : Cursor) (row : ℕ) {count says : ℕ}
     (counted : count ≡ word bytes at 8) (said : says ≡ word bytes (at + 8) 8) where
   pub table-absent : {f : Stop} → says ≡ 0 → f ≡ stop requiredAbsent at → TableOpens bytes handles depth values values objects objects at c row (Refused f)
-  table-absent p e rows members content =
-      rw (e, record-wrong 16 _ _ at (c .next) (c .handles) (read-absent (message rows members bytes handles) at counted said p)) (did-stop (omega arith))
+  table-absent p e t content edition =
+      rw (e, record-wrong 16 _ _ at (c .next) (c .handles) (read-absent (message t bytes handles) at counted said p)) (did-stop (omega arith))
 
   pub table-neither : {f : Stop} → (says ≡ 0 → ⊥) → (says ≡ ones64 → ⊥) → f ≡ stop presenceWrong at
       → TableOpens bytes handles depth values values objects objects at c row (Refused f)
-  table-neither p q e rows members content =
-      rw (e, record-wrong 16 _ _ at (c .next) (c .handles) (read-neither (message rows members bytes handles) at counted said p q)) (did-stop (omega arith))
+  table-neither p q e t content edition =
+      rw (e, record-wrong 16 _ _ at (c .next) (c .handles) (read-neither (message t bytes handles) at counted said p q)) (did-stop (omega arith))
 
-  table-whole : (rows members : List ℕ) (content : ℕ → Content) → says ≡ ones64
-      → tableAt (message rows members bytes handles) depth row content at (c .next) (c .handles)
-      ≡ D.after (count ∷ []) [] (D.oneDeeper (W.levels (message rows members bytes handles) depth) at
-      (λ F b. D.claim (message rows members bytes handles) envelopesObject row (count * 8)
-      (D.lastPresent (message rows members bytes handles) 8 count (envelopesIn (message rows members bytes handles) row content count b))) at (c .next) (c .handles))
-  unfolding envelopesIn envelopeSize
-  table-whole rows members content is =
-      let m = message rows members bytes handles in
+  table-whole : (t : TypeTable) (content : ℕ → Content) → t .edition ≡ eightByteEnvelopes → says ≡ ones64
+      → tableAt (message t bytes handles) depth row content at (c .next) (c .handles)
+      ≡ D.after (count ∷ []) [] (D.oneDeeper (W.levels (message t bytes handles) depth) at
+      (λ F b. D.claim (message t bytes handles) envelopesObject row (count * 8)
+      (D.lastPresent (message t bytes handles) 8 count (envelopesIn (message t bytes handles) row content count b))) at (c .next) (c .handles))
+  unfolding envelopesIn
+  table-whole t content edition is =
+      let m = message t bytes handles in
       record-got 16 _ _ at (c .next) (c .handles) (read-present m at counted said is)
-      ∙ rw (deeper-anywhere m envelopesObject row (count * 8) (W.levels m depth) at (λ F b. D.lastPresent m 8 count (envelopesIn m row content count b)) (at + 16) at)
+      ∙ rw (envelope-size edition, content-read edition, deeper-anywhere m envelopesObject row (count * 8) (W.levels m depth) at (λ F b. D.lastPresent m 8 count (envelopesIn m row content count b)) (at + 16) at)
 
   pub table-opened : {values′ : List ℕ} (objects′ : List ℕ) {d : Cursor} (r : Opened) → says ≡ ones64 → values′ ≡ set values (c .values) count → d ≡ gaveOne c
       → EnvelopesOpen bytes handles depth objects objects′ at d row count r → HasCount count r → TableOpens bytes handles depth values values′ objects objects′ at c row r
   unfolding envelopesIn
-  table-opened objects′ r is e g opens has rows members content =
-      let m = message rows members bytes handles in
+  table-opened objects′ r is e g opens has t content edition =
+      let m = message t bytes handles in
       let given = set values (c .values) count in
-      rw (e, table-whole rows members content is)
+      rw (e, table-whole t content edition is)
       (opens-same (length bytes) handles values given objects objects′ c _ 16 count (λ x h. rw h) (λ x h. rw h) r has
-      (opens-put (length bytes) handles values given objects objects′ c _ 4 16 count _ _ r (omega arith) (rw g at (opens rows members given (envelopesIn m row content count)))))
+      (opens-put (length bytes) handles values given objects objects′ c _ 4 16 count _ _ r (omega arith) (rw g at (opens t given (envelopesIn m row content count)))))

@@ -9,11 +9,11 @@ use Rattle.rules.specs.declared.Place.the-variants.{Byte}
 use Rattle.rules.specs.Refusals.{if_then_else_, fault, envelopeNumberWrong}
 use Rattle.rules.specs.Bytes.{ones64}
 use Rattle.rules.specs.Trace.{vectorObject, unknownContent, unknownObject}
-use Rattle.rules.specs.TypeTable.{Content, eightByteEnvelopes}
+use Rattle.rules.specs.TypeTable.{Content}
 use Rattle.rules.specs.Decode as D
 use Rattle.rules.specs.Decode.{Message, Decoded, went, Decoder, ReadRecord, got, wrong}
 use Rattle.rules.specs.Records.{ordinalPattern, readNumber, readPresence, readCount, readTable}
-use Rattle.rules.specs.Envelope.{decodeWord, lowWord, handleNumber, decodeContent}
+use Rattle.rules.specs.Envelope.{decodeWord, lowWord, handleNumber, contentOfEightBytes}
 use Rattle.rules.specs.Walk as W
 use Rattle.nesting.specs.declared.Ordinal.{Ordinal}
 use Rattle.walk_leaves.specs.declared.cursor.Cursor.{Cursor}
@@ -108,7 +108,7 @@ module _ (m : Message) (depth : ℕ) where
 
   abbrev pub envelopesOf : (row : ℕ) → (ℕ → Content) → Opening → Decoded
   envelopesOf row content x =
-      D.elements 8 (λ ordinal. D.optionalEnvelope m 8 (eqb ordinal (x .count)) (decodeContent eightByteEnvelopes m (W.levels m (depth - 1)) row (content ordinal))) 1 (x .count)
+      D.elements 8 (λ ordinal. D.optionalEnvelope m 8 (eqb ordinal (x .count)) (contentOfEightBytes m (W.levels m (depth - 1)) row (content ordinal))) 1 (x .count)
       (x .start) (x .cursor .next) (x .cursor .handles)
 
 -- ---- envelopes

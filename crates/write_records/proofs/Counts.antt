@@ -14,12 +14,12 @@ use lib.ListN.{length, drop, getD, length-append}
 use lib.Seq.{sets}
 use Rattle.rules.specs.Refusals.{notAValue}
 use Rattle.rules.specs.Bytes.{bytesOf, ones64}
-use Rattle.rules.specs.TypeTable.{typeTable}
 use Rattle.rules.specs.Encode as E
 use Rattle.rules.specs.Encode.{Encoder, put, unfit}
 use Rattle.rules.specs.Records.{countBytes, writeCount}
 use Rattle.rules.specs.Writer as R
 use Rattle.words.proofs.Stores.{sets-append, length-bytesOf}
+use Rattle.nesting.specs.Ready.{someTable}
 use Rattle.write_leaves.specs.declared.cursor.Cursor.{Cursor}
 use Rattle.write_leaves.specs.declared.cursor.Stop.{Stop}
 use Rattle.write_records.specs.declared.records.Opening.{Opening}
@@ -128,4 +128,4 @@ module _ (values out out′ : List ℕ) (depth at : ℕ) (c : Cursor) (size larg
   -- Where an object that is open stands.
   pub counted-stands : {base : ℕ} {x : Opening} → Ask values 16 at base c → r ≡ Open x
       → (x .start ≡ c .next) × (x .cursor ≡ opened (x .count * size) (claimedFrom x)) × Stands values (x .cursor)
-  counted-stands {base} ask e = let o = rw e at (opens (typeTable [] []) base (λ count rows b. E.nothing) ask) in (o .0, o .1, o .2)
+  counted-stands {base} ask e = let o = rw e at (opens someTable base (λ count rows b. E.nothing) ask) in (o .0, o .1, o .2)

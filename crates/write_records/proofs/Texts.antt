@@ -13,13 +13,14 @@ use lib.Seq.{sets}
 use Rattle.rules.specs.Refusals.{notAValue, messageTooLong, tooDeep}
 use Rattle.rules.specs.Bytes.{zeros, padded}
 use Rattle.rules.specs.Text.{isUtf8}
-use Rattle.rules.specs.TypeTable.{TypeTable, typeTable}
+use Rattle.rules.specs.TypeTable.{TypeTable}
 use Rattle.rules.specs.Encode as E
 use Rattle.rules.specs.Encode.{Encoded, wrote, cannot, Encoder, WriteRecord, put, unfit}
 use Rattle.rules.specs.Envelope.{encodeWord}
 use Rattle.rules.specs.Records.{writeCount}
 use Rattle.rules.specs.Writer as R
 use Rattle.rules.proofs.Bytes.{padded-above}
+use Rattle.nesting.specs.Ready.{someTable}
 use Rattle.write_leaves.specs.declared.cursor.Cursor.{Cursor}
 use Rattle.write_leaves.specs.declared.cursor.Stop.{Stop}
 use Rattle.write_leaves.specs.declared.cursor.Wrote.{Wrote}
@@ -204,9 +205,9 @@ module _ (values out half : List ℕ) (depth at base : ℕ) (c : Cursor) (larges
     judged : length values - suc (length (drop (x .cursor .index) values)) ≡ c .index
     judged =
         let mark : ℕ = length values - suc (length (drop (x .cursor .index) values)) in
-        let o = rw is-open at (opens (typeTable [] []) base (λ count rows b numbers n u. cannot 0 (suc (length numbers))) ask) in
+        let o = rw is-open at (opens someTable base (λ count rows b numbers n u. cannot 0 (suc (length numbers))) ask) in
         let p = o .3 half (W.Refused (stop 0 mark)) (record { says = refl; stored = tt; fit = omega arith }) in
-        let m : mark ≡ length values - length (drop (c .index) values) = marks (length values) (c .next) (c .handles) mark (R.levels (typeTable [] []) depth) (writeCount (eqb optional 1) largest) (drop (c .index) values) (p .says) in
+        let m : mark ≡ length values - length (drop (c .index) values) = marks (length values) (c .next) (c .handles) mark (R.levels someTable depth) (writeCount (eqb optional 1) largest) (drop (c .index) values) (p .says) in
         omega (arith, m, length-drop (c .index) values, ask .left)
 
     module _ {mid : List ℕ} {s : Wrote} (puts : PutsInLine values half mid (x .count * 1) (x .start - base) (x .cursor) s (numbersAs 1 (x .count))) where

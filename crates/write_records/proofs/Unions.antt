@@ -13,14 +13,15 @@ use lib.ListN.{length, drop, getD}
 use lib.Seq.{sets}
 use Rattle.rules.specs.Refusals.{if_then_else_, notAValue, ordinalUnknown}
 use Rattle.rules.specs.Bytes.{bytesOf, zeros}
-use Rattle.rules.specs.TypeTable.{TypeTable, typeTable, envelopeSize, Content, contentOf}
+use Rattle.rules.specs.TypeTable.{TypeTable, Content, contentOf}
 use Rattle.rules.specs.Encode as E
 use Rattle.rules.specs.Encode.{Encoded, wrote, cannot, Encoder, WriteRecord, put, unfit}
 use Rattle.rules.specs.Records.{isKnown, unless, writeIf, ordinalPattern, writeNumber}
 use Rattle.rules.specs.Envelope.{encodeContent, writeContentOfEightBytes}
 use Rattle.rules.specs.Writer as R
 use Rattle.nesting.specs.declared.Ordinal.{Ordinal}
-use Rattle.nesting.specs.Ordinals.{ordinalIs, halved, Rising}
+use Rattle.nesting.specs.Ordinals.{ordinalIs, ContentIs, halved, Rising}
+use Rattle.nesting.proofs.Edition.{envelope-size, content-written}
 use Rattle.words.proofs.Stores.{sets-append, length-bytesOf}
 use Rattle.write_leaves.specs.declared.cursor.Cursor.{Cursor}
 use Rattle.write_leaves.specs.declared.cursor.Stop.{Stop}
@@ -39,39 +40,36 @@ unionRecord content form = writeNumber 8 (ordinalPattern content (eqb (form % 2)
 
 module _ (members values out : List ℕ) (at : ℕ) (c : Cursor) (first count form : ℕ) (s : Stands values c) where
   pub union-ended : {f : Stop} → length values ≤ c .index → f ≡ stop notAValue (c .index) → UnionOpens members values out out at c first count form (Bad f)
-  union-ended h e rows depth base ask =
-      let t = typeTable rows members in
+  union-ended h e t depth base edition same ask =
       rw e (record-ended (unionRecord (contentOf t first count) form) (R.afterUnion t (R.levels t depth) (contentOf t first count)) (s .left) h base)
 
   module _ {v : ℕ} (h : c .index < length values) (read : v ≡ getD values (c .index) 0) where
-    unfit-bad : {f : Stop} → ((rows : List ℕ) → unionRecord (contentOf (typeTable rows members) first count) form v ≡ unfit) → f ≡ stop notAValue (c .index)
+    unfit-bad : {f : Stop} → ((t : TypeTable) → t .members ≡ members → unionRecord (contentOf t first count) form v ≡ unfit) → f ≡ stop notAValue (c .index)
         → UnionOpens members values out out at c first count form (Bad f)
-    unfit-bad w e rows depth base ask =
-        let t = typeTable rows members in
-        rw e (record-unfit (unionRecord (contentOf t first count) form) (R.afterUnion t (R.levels t depth) (contentOf t first count)) v h read (w rows) base)
+    unfit-bad w e t depth base edition same ask =
+        rw e (record-unfit (unionRecord (contentOf t first count) form) (R.afterUnion t (R.levels t depth) (contentOf t first count)) v h read (w t same) base)
 
     -- ---- without a member
 
     module _ (z : v ≡ 0) where
       pub union-required : {f : Stop} → form % 2 ≡ 0 → f ≡ stop notAValue (c .index) → UnionOpens members values out out at c first count form (Bad f)
       unfolding writeNumber
-      union-required o e = unfit-bad (λ rows. rw (z, ne-eqb (form % 2) 1 (λ q. omega arith))) e
+      union-required o e = unfit-bad (λ t same. rw (z, ne-eqb (form % 2) 1 (λ q. omega arith))) e
 
       pub union-absent : {half whole : List ℕ} {d : Cursor} → (form % 2 ≡ 0 → ⊥) → half ≡ sets out at (bytesOf 8 0) → whole ≡ sets half (at + 8) (bytesOf 8 0) → d ≡ tookOne c
           → UnionOpens members values out whole at c first count form (None d)
-      unfolding writeNumber envelopeSize zeros bytesOf E.inlineBytes
-      union-absent {half} {whole} o p q e rows depth base ask =
-          let t = typeTable rows members in
+      unfolding writeNumber zeros bytesOf E.inlineBytes
+      union-absent {half} {whole} o p q e t depth base edition same ask =
           let number : 0 ≡ getD values (c .index) 0 = sym z ∙ read in
           let place : at + length (bytesOf 8 0) ≡ at + 8 = ap (λ (n : ℕ). at + n) (length-bytesOf 8 0) in
           let stored : whole ≡ sets out at (bytesOf 8 0 ++ zeros 8) = q ∙ rw (p, ← place) (sets-append out at (bytesOf 8 0) (zeros 8)) in
-          rw (e, record-at (unionRecord (contentOf t first count) form) (R.afterUnion t (R.levels t depth) (contentOf t first count)) values (c .index) (c .next) (c .handles) h, ← number, eq-eqb (form % 2) 1 (omega (arith, o)))
+          rw (e, record-at (unionRecord (contentOf t first count) form) (R.afterUnion t (R.levels t depth) (contentOf t first count)) values (c .index) (c .next) (c .handles) h, ← number, eq-eqb (form % 2) 1 (omega (arith, o)), envelope-size edition)
           (put-in-line (tookOne c) (bytesOf 8 0 ++ zeros 8) refl stored (took-stands s h) refl (omega arith) (omega arith))
 
     -- ---- with a member
 
     module _ (fits : Fits w64 v) (n : v ≡ 0 → ⊥) (small : form ≤ 3) (what : Ordinal) (known : Bool) (k : known ≡ isKnown (ordinalIs what))
-        (is : (rows : List ℕ) → ordinalIs what ≡ contentOf (typeTable rows members) first count v) where
+        (is : ContentIs members first count v what) where
       -- A flexible union takes any ordinal.
       accepts : (form : ℕ) (known : Bool) → form ≤ 3 → (if eqb (form / 2) 1 then true else known) ≡ (leb 2 form || known)
       accepts form known h = go (leb 2 form) refl
@@ -86,11 +84,11 @@ module _ (members values out : List ℕ) (at : ℕ) (c : Cursor) (first count fo
       judged content optional flexible zero z l = absurd (z refl)
       judged content optional flexible (suc v) z l = let p : ltb (suc v) 18446744073709551616 ≡ true = lt-ltb (suc v) 18446744073709551616 l in rw p
 
-      written : (rows : List ℕ) → unionRecord (contentOf (typeTable rows members) first count) form v ≡ writeIf (unless ordinalUnknown (leb 2 form || known)) (put (bytesOf 8 v))
-      written rows = judged (contentOf (typeTable rows members) first count) (eqb (form % 2) 1) (eqb (form / 2) 1) v n (fits .fits) ∙ rw (← (is rows), ← k, accepts form known small)
+      written : (t : TypeTable) → t .members ≡ members → unionRecord (contentOf t first count) form v ≡ writeIf (unless ordinalUnknown (leb 2 form || known)) (put (bytesOf 8 v))
+      written t same = judged (contentOf t first count) (eqb (form % 2) 1) (eqb (form / 2) 1) v n (fits .fits) ∙ rw (← (is t same), ← k, accepts form known small)
 
       pub union-unknown : {f : Stop} → not (leb 2 form || known) ≡ true → f ≡ stop notAValue (c .index) → UnionOpens members values out out at c first count form (Bad f)
-      union-unknown a e = unfit-bad (λ rows. written rows ∙ rw (not-true (leb 2 form || known) a)) e
+      union-unknown a e = unfit-bad (λ t same. written t same ∙ rw (not-true (leb 2 form || known) a)) e
 
       -- The envelope follows the ordinal.
       after-ordinal : (content : ℕ → Content) (t : TypeTable) (below : E.Deeper) (v : ℕ) → (v ≡ 0 → ⊥) → R.afterUnion t below content v ≡ encodeContent (t .edition) t below (content v)
@@ -99,9 +97,7 @@ module _ (members values out : List ℕ) (at : ℕ) (c : Cursor) (first count fo
 
       pub union-member : {out′ : List ℕ} {d : Cursor} → not (leb 2 form || known) ≡ false → out′ ≡ sets out at (bytesOf 8 v) → d ≡ tookOne c
           → UnionOpens members values out out′ at c first count form (Some what d)
-      unfolding encodeContent
-      union-member {out′} {d} a stored e rows depth base ask =
-          let t = typeTable rows members in
+      union-member {out′} {d} a stored e t depth base edition same ask =
           let below = R.levels t depth in (
             e,
             h,
@@ -110,10 +106,11 @@ module _ (members values out : List ℕ) (at : ℕ) (c : Cursor) (first count fo
                 rw (
                   record-at (unionRecord (contentOf t first count) form) (R.afterUnion t below (contentOf t first count)) values (c .index) (c .next) (c .handles) h,
                   ← read,
-                  written rows,
+                  written t same,
                   not-false (leb 2 form || known) a,
                   after-ordinal (contentOf t first count) t below v n,
-                  ← (is rows),
+                  content-written edition,
+                  ← (is t same),
                 )
                 (put-then (writeContentOfEightBytes t below (ordinalIs what))
                 (put-in-line {base = base} {c = c} (tookOne c) (bytesOf 8 v) (length-bytesOf 8 v) stored (took-stands s h) refl (omega arith) (omega arith)) q (omega (arith, ask .inside))),

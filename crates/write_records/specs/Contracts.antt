@@ -1,5 +1,5 @@
 -- What the functions of records.rt and envelopes.rt promise. Each holds under any type table in which the sizes handed in are the
--- rows', wherever the output starts.
+-- rows', wherever the output starts; tables and unions where envelopes have eight bytes.
 -- Assumes nothing.
 use mathlib.Core.Bool.{true}
 use mathlib.Core.List.{List, _++_}
@@ -10,15 +10,15 @@ use lib.ListN.{length, drop, getD}
 use lib.Seq.{sets}
 use Rattle.rules.specs.Bytes.{ones64, zeros, bytesOf}
 use Rattle.rules.specs.Refusals.{if_then_else_}
-use Rattle.rules.specs.TypeTable.{TypeTable, typeTable, Content, known, unknown, contentOf, eightByteEnvelopes}
+use Rattle.rules.specs.TypeTable.{TypeTable, eightByteEnvelopes, Content, contentOf}
 use Rattle.rules.specs.Sizes.{sizeOf}
 use Rattle.rules.specs.Encode as E
 use Rattle.rules.specs.Encode.{Encoder}
 use Rattle.rules.specs.Records.{ordinalPattern, writeNumber, writePresence, writeCount, writeTable}
-use Rattle.rules.specs.Envelope.{inLine, outOfLine, envelopeBytes, encodeContent, writeContentOfEightBytes, writeUnknown}
+use Rattle.rules.specs.Envelope.{inLine, outOfLine, envelopeBytes, writeContentOfEightBytes, writeUnknown}
 use Rattle.rules.specs.Writer as R
 use Rattle.nesting.specs.declared.Ordinal.{Ordinal}
-use Rattle.nesting.specs.Ordinals.{ordinalIs}
+use Rattle.nesting.specs.Ordinals.{ordinalIs, ContentIs}
 use Rattle.write_leaves.specs.declared.cursor.Cursor.{Cursor}
 use Rattle.write_leaves.specs.declared.cursor.Wrote.{Wrote}
 use Rattle.write_leaves.specs.declared.cursor.Wrote.the-variants as W
@@ -96,11 +96,11 @@ module _ (values out out′ : List ℕ) (depth at : ℕ) (c : Cursor) where
 
   abbrev pub TableOpens : Opened → Type 0
   TableOpens r =
-      (rows members : List ℕ) (content : ℕ → Content) (base : ℕ) → Ask values 16 at base c
+      (t : TypeTable) (content : ℕ → Content) (base : ℕ) → t .edition ≡ eightByteEnvelopes → Ask values 16 at base c
       → Opens values out out′ 16 at base c
-      (E.recordThen writeTable (R.afterTable (typeTable rows members) (R.levels (typeTable rows members) depth) content) (drop (c .index) values) (c .next) (c .handles))
+      (E.recordThen writeTable (R.afterTable t (R.levels t depth) content) (drop (c .index) values) (c .next) (c .handles))
       (λ x. x .count * 8)
-      (λ x. E.elements (λ ordinal. E.optionalEnvelope 8 (eqb ordinal (x .count)) (encodeContent eightByteEnvelopes (typeTable rows members) (R.levels (typeTable rows members) (depth - 1)) (content ordinal))) 1 (x .count)) r
+      (λ x. E.elements (λ ordinal. E.optionalEnvelope 8 (eqb ordinal (x .count)) (writeContentOfEightBytes t (R.levels t (depth - 1)) (content ordinal))) 1 (x .count)) r
 
   -- An envelope with content of an unknown ordinal.
   abbrev pub UnknownPuts : (base : ℕ) → Wrote → Type 0
@@ -126,14 +126,14 @@ OpensMember values out out′ inline at base c whole content (Some what d) =
 -- A union whose members are so many from `first` on; `form` is 1 for optional, 2 for flexible, 3 for both.
 abbrev pub UnionOpens : (members values out out′ : List ℕ) (at : ℕ) (c : Cursor) (first count form : ℕ) → Member → Type 0
 UnionOpens members values out out′ at c first count form r =
-    (rows : List ℕ) (depth base : ℕ) → Ask values 16 at base c
+    (t : TypeTable) (depth base : ℕ) → t .edition ≡ eightByteEnvelopes → t .members ≡ members → Ask values 16 at base c
     → OpensMember values out out′ 16 at base c
-    (E.recordThen (writeNumber 8 (ordinalPattern (contentOf (typeTable rows members) first count) (eqb (form % 2) 1) (eqb (form / 2) 1)))
-    (R.afterUnion (typeTable rows members) (R.levels (typeTable rows members) depth) (contentOf (typeTable rows members) first count)) (drop (c .index) values) (c .next) (c .handles))
-    (λ what. writeContentOfEightBytes (typeTable rows members) (R.levels (typeTable rows members) depth) (ordinalIs what)) r
+    (E.recordThen (writeNumber 8 (ordinalPattern (contentOf t first count) (eqb (form % 2) 1) (eqb (form / 2) 1)))
+    (R.afterUnion t (R.levels t depth) (contentOf t first count)) (drop (c .index) values) (c .next) (c .handles))
+    (λ what. writeContentOfEightBytes t (R.levels t depth) (ordinalIs what)) r
 
 -- The member that a union's number stands for.
 abbrev pub MemberIs : (members values : List ℕ) (c : Cursor) (first count : ℕ) → Member → Type 0
 MemberIs members values c first count (None d) = Unit {0}
 MemberIs members values c first count (Bad s) = Unit {0}
-MemberIs members values c first count (Some what d) = (rows : List ℕ) → ordinalIs what ≡ contentOf (typeTable rows members) first count (getD values (c .index) 0)
+MemberIs members values c first count (Some what d) = ContentIs members first count (getD values (c .index) 0) what

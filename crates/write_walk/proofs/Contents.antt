@@ -9,7 +9,7 @@ use lib.ListN.{length, drop, getD, length-append}
 use lib.Seq.{sets}
 use Rattle.rules.specs.Refusals.{tooDeep}
 use Rattle.rules.specs.Bytes.{bytesOf, zeros}
-use Rattle.rules.specs.TypeTable.{typeTable, rowCount, known}
+use Rattle.rules.specs.TypeTable.{TypeTable, rowCount, known}
 use Rattle.rules.specs.Sizes.{sizeOf}
 use Rattle.rules.specs.Encode as E
 use Rattle.rules.specs.Encode.{Encoded, wrote, cannot, Encoder}
@@ -137,66 +137,66 @@ bytes-halt {values} {out} {out′} {size} {at} {base} next {c} {s} {e} p = go e 
 
 -- ---- unknown content
 
-pub content-unknown : (rows members values out out′ : List ℕ) (base depth at : ℕ) (c : Cursor) (what : Ordinal) (r : Wrote)
-    → what ≡ Unknown → UnknownPuts values out out′ depth at c base r → ContentPut rows members values out out′ base depth at c what r
+pub content-unknown : (t : TypeTable) (values out out′ : List ℕ) (base depth at : ℕ) (c : Cursor) (what : Ordinal) (r : Wrote)
+    → what ≡ Unknown → UnknownPuts values out out′ depth at c base r → ContentPut t values out out′ base depth at c what r
 unfolding writeContentOfEightBytes
-content-unknown rows members values out out′ base depth at c what r e p = rw e (p (typeTable rows members))
+content-unknown t values out out′ base depth at c what r e p = rw e (p t)
 
 -- ---- a known payload
 
-module _ {rows members sizes alignments : List ℕ} {depth row payload : ℕ} (what : Ordinal) (ready : Ready rows members sizes alignments depth row)
-    (fits : OrdinalFits rows members what) (is : what ≡ Known payload) where
-  in-use : payload < rowCount (typeTable rows members)
+module _ {t : TypeTable} {sizes alignments : List ℕ} {depth row payload : ℕ} (what : Ordinal) (ready : Ready t sizes alignments depth row)
+    (fits : OrdinalFits t what) (is : what ≡ Known payload) where
+  in-use : payload < rowCount t
   in-use = rw is at fits
 
   pub payload-few : payload < 256
   payload-few = row-in-use ready payload in-use
 
-  pub payload-ready : Ready rows members sizes alignments (depth - 1) payload
+  pub payload-ready : Ready t sizes alignments (depth - 1) payload
   payload-ready = ready-at ready (depth - 1) payload (omega arith) in-use
 
   module _ {size : ℕ} (kept : size ≡ getD sizes payload 0) where
     pub payload-small : size ≤ 65528
     payload-small = size-small ready payload in-use kept
 
-    pub payload-size : sizeOf (typeTable rows members) payload ≡ size
+    pub payload-size : sizeOf t payload ≡ size
     payload-size = row-size ready payload in-use kept
 
-module _ (rows members values out : List ℕ) (base depth row at : ℕ) (c : Cursor) (what : Ordinal) {sizes alignments : List ℕ} {payload size : ℕ}
-    (ready : Ready rows members sizes alignments depth row) (fits : OrdinalFits rows members what) (is : what ≡ Known payload) (kept : size ≡ getD sizes payload 0)
+module _ (t : TypeTable) (values out : List ℕ) (base depth row at : ℕ) (c : Cursor) (what : Ordinal) {sizes alignments : List ℕ} {payload size : ℕ}
+    (ready : Ready t sizes alignments depth row) (fits : OrdinalFits t what) (is : what ≡ Known payload) (kept : size ≡ getD sizes payload 0)
     (ask : Ask values 8 at base c) where
   -- ---- in line
 
   module _ (small : size ≤ 4) where
-    in-line : writeContentOfEightBytes (typeTable rows members) (R.levels (typeTable rows members) depth) (known payload)
-        ≡ writeFlags inLine (E.sequence (E.oneDeeper (R.levels (typeTable rows members) depth) (λ F b. F payload)) (E.fill (4 - size)))
+    in-line : writeContentOfEightBytes t (R.levels t depth) (known payload)
+        ≡ writeFlags inLine (E.sequence (E.oneDeeper (R.levels t depth) (λ F b. F payload)) (E.fill (4 - size)))
     unfolding writeContentOfEightBytes
     in-line =
         let sized = payload-size what ready fits is kept in
-        let fits-in = le-leb (sizeOf (typeTable rows members) payload) 4 (omega (arith, sized, small)) in
+        let fits-in = le-leb (sizeOf t payload) 4 (omega (arith, sized, small)) in
         rw fits-in (rw sized)
 
-    pub small-too-deep : {r : Wrote} → depth ≡ 0 → 0 < c .index → r ≡ Refused (stop tooDeep (c .index - 1)) → ContentPut rows members values out out base depth at c what r
+    pub small-too-deep : {r : Wrote} → depth ≡ 0 → 0 < c .index → r ≡ Refused (stop tooDeep (c .index - 1)) → ContentPut t values out out base depth at c what r
     unfolding writeFlags E.sequence
     small-too-deep z i y =
-        rw (is, in-line, y, levels-spent (typeTable rows members) depth z) (put-last tooDeep (c .index) (c .index - 1) (omega arith) (ask .left) (omega arith))
+        rw (is, in-line, y, levels-spent t depth z) (put-last tooDeep (c .index) (c .index - 1) (omega arith) (ask .left) (omega arith))
 
     module _ (down : depth ≡ 0 → ⊥) where
-      pub small-asks : Ask values (sizeOf (typeTable rows members) payload) at base c
+      pub small-asks : Ask values (sizeOf t payload) at base c
       small-asks = record { inside = omega (arith, ask .inside, payload-size what ready fits is kept); free = ask .free; held = ask .held; left = ask .left }
 
-      module _ {out′ : List ℕ} {w : Wrote} (p : ValuePut rows members values out out′ base (depth - 1) at c payload w) where
-        pub small-refused : {f : Stop} → w ≡ Refused f → ContentPut rows members values out out′ base depth at c what (Refused f)
+      module _ {out′ : List ℕ} {w : Wrote} (p : ValuePut t values out out′ base (depth - 1) at c payload w) where
+        pub small-refused : {f : Stop} → w ≡ Refused f → ContentPut t values out out′ base depth at c what (Refused f)
         unfolding writeFlags E.sequence
         small-refused z =
-            rw (is, in-line, levels-down (typeTable rows members) depth down) (flags-halt inLine 8 (c .handles) (put-halt 4 (E.fill (4 - size)) (rw z at p)))
+            rw (is, in-line, levels-down t depth down) (flags-halt inLine 8 (c .handles) (put-halt 4 (E.fill (4 - size)) (rw z at p)))
 
         pub small-sealed : {d : Cursor} {handles : ℕ} {out″ : List ℕ} → w ≡ On d → handles ≡ d .handles - c .handles → out″ ≡ sealedOut out′ size at 0 handles
-            → ContentPut rows members values out out″ base depth at c what (On d)
+            → ContentPut t values out out″ base depth at c what (On d)
         unfolding writeFlags E.sequence E.inlineBytes
         small-sealed {d} {handles} {out″} z h s =
             let sized = payload-size what ready fits is kept in
-            let put : Puts values out out′ size at base c (On d) (writeRow rows members (depth - 1) payload) = rw (z, sized) at p in
+            let put : Puts values out out′ size at base c (On d) (writeRow t (depth - 1) payload) = rw (z, sized) at p in
             let rises = put-rises put refl in
             let stood : Stands values d = wrote-stands put .0 in
             let filled : Puts values out′ (sets out′ (at + size) (zeros (4 - size))) (4 - size) (at + size) base d (On d) (E.fill (4 - size)) =
@@ -204,46 +204,46 @@ module _ (rows members values out : List ℕ) (base depth row at : ℕ) (c : Cur
             in
             let four : size + (4 - size) ≡ 4 = omega (arith, small) in
             let whole = rw four at (put-then (E.fill (4 - size)) put filled (omega (arith, ask .inside))) in
-            rw (is, in-line, levels-down (typeTable rows members) depth down)
+            rw (is, in-line, levels-down t depth down)
             (flags-put inLine 4 whole (omega (arith, ask .inside)) (s ∙ rw (le-leb size 4 small, h)))
 
   -- ---- out of line
 
   module _ (large : 4 < size) (r : Opened) (opens : DeeperOpens depth size c r) where
-    out-of-line : writeContentOfEightBytes (typeTable rows members) (R.levels (typeTable rows members) depth) (known payload)
-        ≡ writeFlags outOfLine (writeByteNumber (E.oneDeeper (R.levels (typeTable rows members) depth) (λ F b. E.claim size (F payload))))
+    out-of-line : writeContentOfEightBytes t (R.levels t depth) (known payload)
+        ≡ writeFlags outOfLine (writeByteNumber (E.oneDeeper (R.levels t depth) (λ F b. E.claim size (F payload))))
     unfolding writeContentOfEightBytes
     out-of-line =
         let sized = payload-size what ready fits is kept in
-        let leads-out = lt-leb (sizeOf (typeTable rows members) payload) 4 (omega (arith, sized, large)) in
+        let leads-out = lt-leb (sizeOf t payload) 4 (omega (arith, sized, large)) in
         rw leads-out (rw sized)
 
     opening : {x : Opened} → r ≡ x
-        → Opens values out out 0 at base c (E.oneDeeper (R.levels (typeTable rows members) depth) (λ F b. E.claim size (F payload)) (drop (c .index) values) (c .next) (c .handles)) (λ x. size)
-        (λ x. writeRow rows members (depth - 1) payload) x
-    opening e = rw e at (opens (typeTable rows members) values out at base (λ F b. F payload) (record { inside = omega (arith, ask .inside); free = ask .free; held = ask .held; left = ask .left }))
+        → Opens values out out 0 at base c (E.oneDeeper (R.levels t depth) (λ F b. E.claim size (F payload)) (drop (c .index) values) (c .next) (c .handles)) (λ x. size)
+        (λ x. writeRow t (depth - 1) payload) x
+    opening e = rw e at (opens t values out at base (λ F b. F payload) (record { inside = omega (arith, ask .inside); free = ask .free; held = ask .held; left = ask .left }))
 
-    pub large-closed : {d : Cursor} → NotClosed r → r ≡ Closed d → ContentPut rows members values out out base depth at c what (On d)
+    pub large-closed : {d : Cursor} → NotClosed r → r ≡ Closed d → ContentPut t values out out base depth at c what (On d)
     large-closed n e = absurd (rw e at n)
 
-    pub large-not-open : {f : Stop} → r ≡ Opened.Refused f → ContentPut rows members values out out base depth at c what (Refused f)
+    pub large-not-open : {f : Stop} → r ≡ Opened.Refused f → ContentPut t values out out base depth at c what (Refused f)
     unfolding writeFlags writeByteNumber
     large-not-open e = rw (is, out-of-line) (flags-halt outOfLine 8 (c .handles) (bytes-halt (c .next) (opening e)))
 
     module _ {x : Opening} (e : r ≡ Open x) where
-      pub payload-claimed : Claimed values (sizeOf (typeTable rows members) payload) base x
+      pub payload-claimed : Claimed values (sizeOf t payload) base x
       payload-claimed =
           let sized = payload-size what ready fits is kept in
           let o = opening e in
           rw sized (record { within = omega (arith, ask .inside, o .0); advanced = o .1; stands = o .2 })
 
-      module _ {out′ : List ℕ} {w : Wrote} (p : SingleOf rows members values out out′ base (depth - 1) x payload w) where
-        claimed-put : Put values out out′ 0 at base c w (E.oneDeeper (R.levels (typeTable rows members) depth) (λ F b. E.claim size (F payload)) (drop (c .index) values) (c .next) (c .handles))
+      module _ {out′ : List ℕ} {w : Wrote} (p : SingleOf t values out out′ base (depth - 1) x payload w) where
+        claimed-put : Put values out out′ 0 at base c w (E.oneDeeper (R.levels t depth) (λ F b. E.claim size (F payload)) (drop (c .index) values) (c .next) (c .handles))
         claimed-put =
             let sized = payload-size what ready fits is kept in
             opening e .3 out′ w (rw sized at p)
 
-        pub large-refused : {f : Stop} → w ≡ Refused f → ContentPut rows members values out out′ base depth at c what (Refused f)
+        pub large-refused : {f : Stop} → w ≡ Refused f → ContentPut t values out out′ base depth at c what (Refused f)
         unfolding writeFlags writeByteNumber
         large-refused z = rw (is, out-of-line) (flags-halt outOfLine 8 (c .handles) (bytes-halt (c .next) (rw z at claimed-put)))
 
@@ -251,6 +251,6 @@ module _ (rows members values out : List ℕ) (base depth row at : ℕ) (c : Cur
         large-rises z = put-rises claimed-put z
 
         pub large-sealed : {d : Cursor} {bytes handles : ℕ} {out″ : List ℕ} → w ≡ On d → bytes ≡ d .next - c .next → handles ≡ d .handles - c .handles → out″ ≡ sealedOut out′ size at bytes handles
-            → ContentPut rows members values out out″ base depth at c what (On d)
+            → ContentPut t values out out″ base depth at c what (On d)
         unfolding writeFlags writeByteNumber
         large-sealed z b h s = rw (is, out-of-line) (envelope-put (rw z at claimed-put) (ask .inside) (s ∙ rw (lt-leb size 4 large, b, h)))

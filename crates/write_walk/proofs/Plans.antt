@@ -8,7 +8,7 @@ use borrow.Author.Tests.{ne-eqb}
 use lib.ListN.{drop, getD}
 use Rattle.rules.specs.Refusals.{accepted}
 use Rattle.rules.specs.Bytes.{zeros}
-use Rattle.rules.specs.TypeTable.{TypeTable, typeTable, rowCount, aAt, bAt}
+use Rattle.rules.specs.TypeTable.{TypeTable, rowCount, aAt, bAt}
 use Rattle.rules.specs.Sizes.{Field, field, layoutOf, sizeOf}
 use Rattle.rules.specs.Sound.{soundness}
 use Rattle.rules.specs.Encode as E
@@ -63,39 +63,38 @@ module _ (t : TypeTable) (deep : E.Deeper) where
 
 -- ---- the elements of a vector
 
-module _ {rows members sizes alignments : List ℕ} {depth row : ℕ} (ready : Ready rows members sizes alignments depth row) {plan : Plan} (p : Planned plan (planOf rows members alignments row)) (some : 0 < plan .count)
+module _ {t : TypeTable} {sizes alignments : List ℕ} {depth row : ℕ} (ready : Ready t sizes alignments depth row) {plan : Plan} (p : Planned plan (planOf (t .rows) (t .members) alignments row)) (some : 0 < plan .count)
     {size : ℕ} (s : size ≡ getD sizes row 0) where
-  flat : FlatRow (typeTable rows members) row (partsOf plan)
+  flat : FlatRow t row (partsOf plan)
   flat = plan-flat ready p some
 
-  sized : sizeOf (typeTable rows members) row ≡ size
+  sized : sizeOf t row ≡ size
   sized = row-size ready row (ready .in-use) s
 
-  pub planned-ask : {values : List ℕ} {at base : ℕ} {c : Cursor} (count : ℕ) → Ask values (count * sizeOf (typeTable rows members) row) at base c
+  pub planned-ask : {values : List ℕ} {at base : ℕ} {c : Cursor} (count : ℕ) → Ask values (count * sizeOf t row) at base c
       → (plan .count ≤ 16) × Runnable (partsOf plan) × (partsSize (partsOf plan) ≡ size) × Ask values (count * size) at 0 c
   planned-ask {values} {at} {base} {c} count ask =
       let a : Ask values (count * size) at base c = rw sized at ask in
       (p .few, flat-runnable flat, sym (flat-row-size ready flat) ∙ sized, record { inside = omega (arith, a .inside); free = a .free; held = a .held; left = a .left })
 
-  pub planned-done : (values out out′ : List ℕ) (base at : ℕ) (c : Cursor) (count : ℕ) (r : Wrote) → Ask values (count * sizeOf (typeTable rows members) row) at base c
-      → PutAsked values out out′ (count * size) at c r (E.elements (λ i. partsAs (partsOf plan)) 0 count) → ElementsPut rows members values out out′ base depth at c row count r
+  pub planned-done : (values out out′ : List ℕ) (base at : ℕ) (c : Cursor) (count : ℕ) (r : Wrote) → Ask values (count * sizeOf t row) at base c
+      → PutAsked values out out′ (count * size) at c r (E.elements (λ i. partsAs (partsOf plan)) 0 count) → ElementsPut t values out out′ base depth at c row count r
   planned-done values out out′ base at c count r ask put =
-      let t = typeTable rows members in
       rw (elements-same (row-encode t (R.levels t depth) (ready .sound) (ready .in-use) flat) 0 count (drop (c .index) values) (c .next) (c .handles), sized)
       (put base (rw sized at ask))
 
   -- A value by itself is a run of one.
-  alone : sizeOf (typeTable rows members) row ≡ 1 * sizeOf (typeTable rows members) row
+  alone : sizeOf t row ≡ 1 * sizeOf t row
   alone = omega arith
 
-  pub alone-ask : {values : List ℕ} {at base : ℕ} {c : Cursor} → Ask values (sizeOf (typeTable rows members) row) at base c
+  pub alone-ask : {values : List ℕ} {at base : ℕ} {c : Cursor} → Ask values (sizeOf t row) at base c
       → (plan .count ≤ 16) × Runnable (partsOf plan) × (partsSize (partsOf plan) ≡ size) × Ask values (1 * size) at 0 c
   alone-ask {values} {at} {base} {c} ask = planned-ask 1 (subst (λ (s : ℕ). Ask values s at base c) alone ask)
 
-  pub alone-done : (values out out′ : List ℕ) (base at : ℕ) (c : Cursor) (r : Wrote) → Ask values (sizeOf (typeTable rows members) row) at base c
-      → PutAsked values out out′ (1 * size) at c r (E.elements (λ i. partsAs (partsOf plan)) 0 1) → ValuePut rows members values out out′ base depth at c row r
+  pub alone-done : (values out out′ : List ℕ) (base at : ℕ) (c : Cursor) (r : Wrote) → Ask values (sizeOf t row) at base c
+      → PutAsked values out out′ (1 * size) at c r (E.elements (λ i. partsAs (partsOf plan)) 0 1) → ValuePut t values out out′ base depth at c row r
   unfolding E.elements E.sequence
   alone-done values out out′ base at c r ask put =
       let run = planned-done values out out′ base at c 1 r (subst (λ (s : ℕ). Ask values s at base c) alone ask) put in
-      let value = writeRow rows members depth row (drop (c .index) values) (c .next) (c .handles) in
+      let value = writeRow t depth row (drop (c .index) values) (c .next) (c .handles) in
       subst (λ (s : ℕ). Put values out out′ s at base c r value) (sym alone) (rw (then-nothing value) at run)

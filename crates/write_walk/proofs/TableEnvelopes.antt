@@ -12,7 +12,7 @@ use lib.ListN.{length, drop, getD, length-drop, drop-of-length-le}
 use lib.Seq.{sets, drop-cons}
 use Rattle.rules.specs.Refusals.{notAValue}
 use Rattle.rules.specs.Bytes.{zeros, bytesOf}
-use Rattle.rules.specs.TypeTable.{typeTable, contentOf}
+use Rattle.rules.specs.TypeTable.{TypeTable, aAt, bAt, contentOf}
 use Rattle.rules.specs.Encode as E
 use Rattle.rules.specs.Encode.{Encoder, cannot, wrote}
 use Rattle.rules.specs.Envelope.{writeContentOfEightBytes}
@@ -73,69 +73,69 @@ module _ (last : Bool) (content : Encoder) (values : List ℕ) (i next used : �
 -- ---- in turn
 
 -- The envelopes from the one after `i` on.
-abbrev pub EnvelopesLeft : (rows members values : List ℕ) (base depth row count : ℕ) (out out′ : List ℕ) (c d : Cursor) (i : ℕ) → Type 0
-EnvelopesLeft rows members values base depth row count out out′ c d i =
-    RunLeft values base 8 (writeEnvelope rows members depth row count) (count * 8) 0
-    (E.elements (writeEnvelope rows members depth row count) 1 count (drop (c .index) values) (c .next) (c .handles)) out out′ c d (i + 1) (count - i) (i * 8)
+abbrev pub EnvelopesLeft : (t : TypeTable) (values : List ℕ) (base depth row count : ℕ) (out out′ : List ℕ) (c d : Cursor) (i : ℕ) → Type 0
+EnvelopesLeft t values base depth row count out out′ c d i =
+    RunLeft values base 8 (writeEnvelope t depth row count) (count * 8) 0
+    (E.elements (writeEnvelope t depth row count) 1 count (drop (c .index) values) (c .next) (c .handles)) out out′ c d (i + 1) (count - i) (i * 8)
 
-module _ (rows members values : List ℕ) (base depth row count : ℕ) (out : List ℕ) (c : Cursor) where
-  pub envelopes-start : Ask values (count * 8) 0 base c → EnvelopesLeft rows members values base depth row count out out c c 0
+module _ (t : TypeTable) (values : List ℕ) (base depth row count : ℕ) (out : List ℕ) (c : Cursor) where
+  pub envelopes-start : Ask values (count * 8) 0 base c → EnvelopesLeft t values base depth row count out out c c 0
   envelopes-start a =
       let s : 0 + 1 ≡ 1 = omega arith in
       let r : count - 0 ≡ count = omega arith in
       let p : 0 * 8 ≡ 0 = omega arith in
       rw (s, r, p) (run-start 1 count 0 a)
 
-  module _ {out′ : List ℕ} {d : Cursor} {i : ℕ} (r : EnvelopesLeft rows members values base depth row count out out′ c d i) where
-    pub envelopes-end : count ≤ i → EnvelopesPut rows members values out out′ base depth c row count (On d)
+  module _ {out′ : List ℕ} {d : Cursor} {i : ℕ} (r : EnvelopesLeft t values base depth row count out out′ c d i) where
+    pub envelopes-end : count ≤ i → EnvelopesPut t values out out′ base depth c row count (On d)
     envelopes-end h = run-end r (omega arith)
 
     module _ (h : i < count) where
       pub envelope-asks : Ask values 8 (i * 8) base d
       envelope-asks = run-asks r (omega arith)
 
-      turn : {out″ : List ℕ} {e : Cursor} → Puts values out′ out″ 8 (i * 8) base d (On e) (writeEnvelope rows members depth row count (i + 1))
-          → EnvelopesLeft rows members values base depth row count out out″ c e (i + 1)
+      turn : {out″ : List ℕ} {e : Cursor} → Puts values out′ out″ 8 (i * 8) base d (On e) (writeEnvelope t depth row count (i + 1))
+          → EnvelopesLeft t values base depth row count out out″ c e (i + 1)
       turn put =
           let s : count - i - 1 ≡ count - (i + 1) = omega arith in
           let p : i * 8 + 8 ≡ (i + 1) * 8 = omega arith in
           rw (← s, ← p) (run-on r (omega arith) put)
 
       abbrev contentAt : Encoder
-      contentAt = writeContentOfEightBytes (typeTable rows members) (R.levels (typeTable rows members) depth) (contentOf (typeTable rows members) (getD rows (row * 4 + 1) 0) (getD rows (row * 4 + 2) 0) (i + 1))
+      contentAt = writeContentOfEightBytes t (R.levels t depth) (contentOf t (aAt t row) (bAt t row) (i + 1))
 
-      pub one-ended : {w : Wrote} → length values ≤ d .index → w ≡ Refused (stop notAValue (d .index)) → EnvelopesPut rows members values out out′ base depth c row count w
+      pub one-ended : {w : Wrote} → length values ≤ d .index → w ≡ Refused (stop notAValue (d .index)) → EnvelopesPut t values out out′ base depth c row count w
       one-ended k y =
           let a = envelope-asks in
           rw y (run-refused r (omega arith) (rw (envelope-short (eqb (i + 1) count) contentAt values (d .index) (d .next) (d .handles) k) (put-cannot notAValue 0 (d .index) (omega (arith, a .left)) (omega arith))))
 
       module _ {v : ℕ} (k : d .index < length values) (read : v ≡ getD values (d .index) 0) where
         pub one-wrong : {w : Wrote} → ltb 1 v || (eqb v 0 && eqb (i + 1) count) ≡ true → w ≡ Refused (stop notAValue (d .index))
-            → EnvelopesPut rows members values out out′ base depth c row count w
-        one-wrong t y =
-            rw y (run-refused r (omega arith) (rw (envelope-wrong (eqb (i + 1) count) contentAt values (d .index) (d .next) (d .handles) k read t)
+            → EnvelopesPut t values out out′ base depth c row count w
+        one-wrong test y =
+            rw y (run-refused r (omega arith) (rw (envelope-wrong (eqb (i + 1) count) contentAt values (d .index) (d .next) (d .handles) k read test)
             (put-cannot notAValue (suc (length (drop (d .index + 1) values))) (d .index) (omega (arith, length-drop (d .index + 1) values)) (omega arith))))
 
-        module _ (t : ltb 1 v || (eqb v 0 && eqb (i + 1) count) ≡ false) {e : Cursor} (took : e ≡ tookOne d) where
-          pub one-absent : {out″ : List ℕ} → v ≡ 0 → out″ ≡ sets out′ (i * 8) (bytesOf 8 0) → EnvelopesLeft rows members values base depth row count out out″ c e (i + 1)
+        module _ (test : ltb 1 v || (eqb v 0 && eqb (i + 1) count) ≡ false) {e : Cursor} (took : e ≡ tookOne d) where
+          pub one-absent : {out″ : List ℕ} → v ≡ 0 → out″ ≡ sets out′ (i * 8) (bytesOf 8 0) → EnvelopesLeft t values base depth row count out out″ c e (i + 1)
           unfolding zeros bytesOf
           one-absent z stored =
               let a = envelope-asks in
-              rw took (turn (rw (envelope-absent (eqb (i + 1) count) contentAt values (d .index) (d .next) (d .handles) k read t z)
+              rw took (turn (rw (envelope-absent (eqb (i + 1) count) contentAt values (d .index) (d .next) (d .handles) k read test z)
               (put-in-line (tookOne d) (zeros 8) refl stored (record { free = a .free; held = a .held; left = omega arith }) refl (omega arith) (omega arith))))
 
           pub content-asks : Ask values 8 (i * 8) base e × (0 < e .index)
           content-asks = let a = envelope-asks in rw took (record { inside = a .inside; free = a .free; held = a .held; left = omega arith }, omega arith)
 
-          module _ {first known : ℕ} (what : Ordinal) {out″ : List ℕ} {w : Wrote} (n : v ≡ 0 → ⊥) (f : first ≡ getD rows (row * 4 + 1) 0) (g : known ≡ getD rows (row * 4 + 2) 0)
-              (is : ordinalIs what ≡ contentOf (typeTable rows members) first known (i + 1)) (put : ContentPut rows members values out′ out″ base depth (i * 8) e what w) where
-            present : Puts values out′ out″ 8 (i * 8) base d w (writeEnvelope rows members depth row count (i + 1))
+          module _ {first known : ℕ} (what : Ordinal) {out″ : List ℕ} {w : Wrote} (n : v ≡ 0 → ⊥) (f : first ≡ aAt t row) (g : known ≡ bAt t row)
+              (is : ordinalIs what ≡ contentOf t first known (i + 1)) (put : ContentPut t values out′ out″ base depth (i * 8) e what w) where
+            present : Puts values out′ out″ 8 (i * 8) base d w (writeEnvelope t depth row count (i + 1))
             present =
-                let q : ContentPut rows members values out′ out″ base depth (i * 8) (tookOne d) what w = rw took at put in
-                rw (envelope-present (eqb (i + 1) count) contentAt values (d .index) (d .next) (d .handles) k read t n, ← f, ← g, ← is) (put-later q)
+                let q : ContentPut t values out′ out″ base depth (i * 8) (tookOne d) what w = rw took at put in
+                rw (envelope-present (eqb (i + 1) count) contentAt values (d .index) (d .next) (d .handles) k read test n, ← f, ← g, ← is) (put-later q)
 
-            pub one-present : {f : Cursor} → w ≡ On f → EnvelopesLeft rows members values base depth row count out out″ c f (i + 1)
+            pub one-present : {f : Cursor} → w ≡ On f → EnvelopesLeft t values base depth row count out out″ c f (i + 1)
             one-present y = turn (rw y at present)
 
-            pub one-refused : {f : Stop} → w ≡ Refused f → EnvelopesPut rows members values out out″ base depth c row count (Refused f)
+            pub one-refused : {f : Stop} → w ≡ Refused f → EnvelopesPut t values out out″ base depth c row count (Refused f)
             one-refused y = run-refused r (omega arith) (rw y at present)

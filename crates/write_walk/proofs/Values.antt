@@ -9,7 +9,7 @@ use lib.Dec.{eqb}
 use lib.ListN.{getD}
 use lib.Seq.{sets}
 use Rattle.rules.specs.Bytes.{zeros}
-use Rattle.rules.specs.TypeTable.{TypeTable, typeTable, aAt}
+use Rattle.rules.specs.TypeTable.{TypeTable, kindAt, aAt, bAt, cAt}
 use Rattle.rules.specs.Sizes.{sizeOf}
 use Rattle.rules.specs.Envelope.{encodeWord}
 use Rattle.rules.specs.Writer as R
@@ -31,104 +31,97 @@ use Rattle.write_walk.proofs.ByKind.{encode-bool, encode-number, encode
 
 -- ---- scalars and strings
 
-module _ (rows members values out out′ : List ℕ) (base depth at : ℕ) (c : Cursor) (row : ℕ) (r : Wrote) {k : ℕ} (e : k ≡ getD rows (row * 4) 0) where
-  pub value-bool : k ≡ 1 → PutsInLine values out out′ 1 at c r boolAs → ValuePut rows members values out out′ base depth at c row r
+module _ (t : TypeTable) (values out out′ : List ℕ) (base depth at : ℕ) (c : Cursor) (row : ℕ) (r : Wrote) {k : ℕ} (e : k ≡ kindAt t row) where
+  pub value-bool : k ≡ 1 → PutsInLine values out out′ 1 at c r boolAs → ValuePut t values out out′ base depth at c row r
   value-bool q p =
-      let t = typeTable rows members in
       rw (encode-bool t (R.levels t depth) row (sym e ∙ q), size-bool t row (sym e ∙ q)) (p base)
 
-  pub value-number : {a : ℕ} → k ≡ 2 → a ≡ getD rows (row * 4 + 1) 0 → PutsInLine values out out′ a at c r (encodeWord a) → ValuePut rows members values out out′ base depth at c row r
+  pub value-number : {a : ℕ} → k ≡ 2 → a ≡ aAt t row → PutsInLine values out out′ a at c r (encodeWord a) → ValuePut t values out out′ base depth at c row r
   value-number q f p =
-      let t = typeTable rows members in
       rw (encode-number t (R.levels t depth) row (sym e ∙ q), size-number t row (sym e ∙ q), ← f) (p base)
 
-  pub value-handle : {a : ℕ} → k ≡ 3 → a ≡ getD rows (row * 4 + 1) 0 → ((t : TypeTable) → PutsInLine values out out′ 4 at c r (handleAs t (eqb a 1)))
-      → ValuePut rows members values out out′ base depth at c row r
+  pub value-handle : {a : ℕ} → k ≡ 3 → a ≡ aAt t row → ((t : TypeTable) → PutsInLine values out out′ 4 at c r (handleAs t (eqb a 1)))
+      → ValuePut t values out out′ base depth at c row r
   value-handle q f p =
-      let t = typeTable rows members in
       rw (encode-handle t (R.levels t depth) row (sym e ∙ q), size-handle t row (sym e ∙ q), ← f) (p t base)
 
-  pub value-string : {b f : ℕ} → k ≡ 6 → b ≡ getD rows (row * 4 + 2) 0 → f ≡ getD rows (row * 4 + 3) 0 → StringPuts values out out′ depth at c base b f r
-      → ValuePut rows members values out out′ base depth at c row r
+  pub value-string : {b f : ℕ} → k ≡ 6 → b ≡ bAt t row → f ≡ cAt t row → StringPuts values out out′ depth at c base b f r
+      → ValuePut t values out out′ base depth at c row r
   value-string q g h p =
-      let t = typeTable rows members in
       rw (encode-string t (R.levels t depth) row (sym e ∙ q), size-string t row (sym e ∙ q), ← g, ← h) (p t)
 
-  value-array : {a b : ℕ} → k ≡ 4 → a ≡ getD rows (row * 4 + 1) 0 → b ≡ getD rows (row * 4 + 2) 0 → a < row → ElementsPut rows members values out out′ base depth at c a b r
-      → ValuePut rows members values out out′ base depth at c row r
+  value-array : {a b : ℕ} → k ≡ 4 → a ≡ aAt t row → b ≡ bAt t row → a < row → ElementsPut t values out out′ base depth at c a b r
+      → ValuePut t values out out′ base depth at c row r
   value-array q f g h p =
-      let t = typeTable rows members in
       let below : aAt t row < row = rw f at h in
       rw (encode-array t (R.levels t depth) row (sym e ∙ q) below, size-array t row (sym e ∙ q) below, ← f, ← g) p
 
 -- What strings are asked for.
-pub string-ask : (rows members : List ℕ) (row : ℕ) {k : ℕ} {values : List ℕ} {at base : ℕ} {c : Cursor} → k ≡ getD rows (row * 4) 0 → k ≡ 6
-    → Ask values (sizeOf (typeTable rows members) row) at base c → Ask values 16 at base c
-string-ask rows members row e q a = rw (size-string (typeTable rows members) row (sym e ∙ q)) at a
+pub string-ask : (t : TypeTable) (row : ℕ) {k : ℕ} {values : List ℕ} {at base : ℕ} {c : Cursor} → k ≡ kindAt t row → k ≡ 6
+    → Ask values (sizeOf t row) at base c → Ask values 16 at base c
+string-ask t row e q a = rw (size-string t row (sym e ∙ q)) at a
 
 -- ---- numbers, one or a run of them
 
-module _ {rows members sizes alignments : List ℕ} {depth row : ℕ} (ready : Ready rows members sizes alignments depth row) {k width : ℕ}
-    (e : k ≡ getD rows (row * 4) 0) (q : k ≡ 2) (f : width ≡ getD rows (row * 4 + 1) 0) where
+module _ {t : TypeTable} {sizes alignments : List ℕ} {depth row : ℕ} (ready : Ready t sizes alignments depth row) {k width : ℕ}
+    (e : k ≡ kindAt t row) (q : k ≡ 2) (f : width ≡ aAt t row) where
   allowed : widthAllowed width ≡ true
-  allowed = rw f (number-width (typeTable rows members) row (ready .sound) (ready .in-use) (sym e ∙ q))
+  allowed = rw f (number-width t row (ready .sound) (ready .in-use) (sym e ∙ q))
 
-  wide : sizeOf (typeTable rows members) row ≡ width
-  wide = size-number (typeTable rows members) row (sym e ∙ q) ∙ sym f
+  wide : sizeOf t row ≡ width
+  wide = size-number t row (sym e ∙ q) ∙ sym f
 
-  pub number-ask : {values : List ℕ} {at base : ℕ} {c : Cursor} → Ask values (sizeOf (typeTable rows members) row) at base c
+  pub number-ask : {values : List ℕ} {at base : ℕ} {c : Cursor} → Ask values (sizeOf t row) at base c
       → (widthAllowed width ≡ true) × Stands values c × (at + width ≤ 65536)
   number-ask {at = at} {base} {c} ask =
       let inside : base + (at + width) ≤ c .next = rw wide at (ask .inside) in
       (allowed, ask-stands ask, omega (arith, ask .free))
 
-  pub numbers-ask : {values : List ℕ} {at base : ℕ} {c : Cursor} (count : ℕ) → Ask values (count * sizeOf (typeTable rows members) row) at base c
+  pub numbers-ask : {values : List ℕ} {at base : ℕ} {c : Cursor} (count : ℕ) → Ask values (count * sizeOf t row) at base c
       → (widthAllowed width ≡ true) × Stands values c × (at + count * width ≤ 65536)
   numbers-ask {at = at} {base} {c} count ask =
       let inside : base + (at + count * width) ≤ c .next = rw wide at (ask .inside) in
       (allowed, ask-stands ask, omega (arith, ask .free))
 
   pub numbers-done : (values out out′ : List ℕ) (base at : ℕ) (c : Cursor) (count : ℕ) (r : Wrote) → PutsInLine values out out′ (count * width) at c r (numbersAs width count)
-      → ElementsPut rows members values out out′ base depth at c row count r
+      → ElementsPut t values out out′ base depth at c row count r
   unfolding numbersAs
   numbers-done values out out′ base at c count r p =
-      let t = typeTable rows members in
       rw (encode-number t (R.levels t depth) row (sym e ∙ q), wide, ← f) (p base)
 
 -- ---- structs and arrays without parts
 
-module _ {rows members sizes alignments : List ℕ} {depth row : ℕ} (ready : Ready rows members sizes alignments depth row) {k : ℕ} {found : Bool}
-    (e : k ≡ getD rows (row * 4) 0) (p : found ≡ hasParts rows row) (n : found ≡ false) where
+module _ {t : TypeTable} {sizes alignments : List ℕ} {depth row : ℕ} (ready : Ready t sizes alignments depth row) {k : ℕ} {found : Bool}
+    (e : k ≡ kindAt t row) (p : found ≡ hasParts (t .rows) row) (n : found ≡ false) where
   -- an empty struct
-  pub value-empty : {values out out′ : List ℕ} {base at : ℕ} {c : Cursor} → k ≡ 7 → Ask values (sizeOf (typeTable rows members) row) at base c → out′ ≡ sets out at (zeros 1)
-      → ValuePut rows members values out out′ base depth at c row (On c)
+  pub value-empty : {values out out′ : List ℕ} {base at : ℕ} {c : Cursor} → k ≡ 7 → Ask values (sizeOf t row) at base c → out′ ≡ sets out at (zeros 1)
+      → ValuePut t values out out′ base depth at c row (On c)
   value-empty {base = base} q ask s =
-      let t = typeTable rows members in
-      let z = struct-empty rows row (row-few ready) (sym p ∙ n) (sym e ∙ q) in
+      let z = struct-empty (t .rows) row (row-few ready) (sym p ∙ n) (sym e ∙ q) in
       rw (encode-empty t (R.levels t depth) row (sym e ∙ q) z, size-empty t row (sym e ∙ q) z) (fill-put 1 (ask-stands ask) s base)
 
   -- an array of numbers
   module _ {a b width : ℕ} (some : (eqb k 4 || eqb k 7) ≡ true) (other : k ≡ 7 → ⊥)
-      (f : a ≡ getD rows (row * 4 + 1) 0) (w : width ≡ getD rows (a * 4 + 1) 0) (g : b ≡ getD rows (row * 4 + 2) 0) where
+      (f : a ≡ aAt t row) (w : width ≡ aAt t a) (g : b ≡ bAt t row) where
     q : k ≡ 4
     q = array-left k some other
 
     below : a < row
-    below = rw f (array-below (typeTable rows members) row (ready .sound) (ready .in-use) (sym e ∙ q))
+    below = rw f (array-below t row (ready .sound) (ready .in-use) (sym e ∙ q))
 
-    element : Ready rows members sizes alignments depth a
+    element : Ready t sizes alignments depth a
     element = let h = below in ready-at ready depth a (omega arith) (omega (arith, ready .in-use))
 
-    numbered : getD rows (a * 4) 0 ≡ 2
-    numbered = rw f (array-numbers rows row (row-few ready) (sym p ∙ n) (sym e ∙ q))
+    numbered : kindAt t a ≡ 2
+    numbered = rw f (array-numbers (t .rows) row (row-few ready) (sym p ∙ n) (sym e ∙ q))
 
-    pub array-ask : {values : List ℕ} {at base : ℕ} {c : Cursor} → Ask values (sizeOf (typeTable rows members) row) at base c
+    pub array-ask : {values : List ℕ} {at base : ℕ} {c : Cursor} → Ask values (sizeOf t row) at base c
         → (widthAllowed width ≡ true) × Stands values c × (at + b * width ≤ 65536)
     array-ask {values} {at} {base} {c} ask =
-        let elements : Ask values (b * sizeOf (typeTable rows members) a) at base c = rw (f, g) (rw (size-array (typeTable rows members) row (sym e ∙ q) (rw f at below)) at ask) in
+        let elements : Ask values (b * sizeOf t a) at base c = rw (f, g) (rw (size-array t row (sym e ∙ q) (rw f at below)) at ask) in
         numbers-ask element refl numbered w b elements
 
     pub array-done : (values out out′ : List ℕ) (base at : ℕ) (c : Cursor) (r : Wrote) → PutsInLine values out out′ (b * width) at c r (numbersAs width b)
-        → ValuePut rows members values out out′ base depth at c row r
+        → ValuePut t values out out′ base depth at c row r
     array-done values out out′ base at c r did =
-        value-array rows members values out out′ base depth at c row r e q f g below (numbers-done element refl numbered w values out out′ base at c b r did)
+        value-array t values out out′ base depth at c row r e q f g below (numbers-done element refl numbered w values out out′ base at c b r did)

@@ -5,7 +5,7 @@ use mathlib.Core.Path.{_≡_}
 use Prim.Native.Nat.{ℕ, _*_, _≤_}
 use lib.Dec.{eqb}
 use lib.ListN.{drop}
-use Rattle.rules.specs.TypeTable.{TypeTable, typeTable, aAt, bAt, contentOf}
+use Rattle.rules.specs.TypeTable.{TypeTable, aAt, bAt, contentOf}
 use Rattle.rules.specs.Sizes.{sizeOf}
 use Rattle.rules.specs.Encode as E
 use Rattle.rules.specs.Encode.{Encoder}
@@ -25,10 +25,10 @@ pub record Claimed (values : List ℕ) (size base : ℕ) (x : Opening) : Type 0 
   pub advanced : x .cursor ≡ opened size (claimedFrom x)
   pub stands : Stands values (x .cursor)
 
-module _ (rows members : List ℕ) where
+module _ (t : TypeTable) where
   -- The value of a row, so deep.
   abbrev pub writeRow : (depth row : ℕ) → Encoder
-  writeRow depth row = R.encodeRow (typeTable rows members) (R.levels (typeTable rows members) depth) row
+  writeRow depth row = R.encodeRow t (R.levels t depth) row
 
   -- so many of them
   abbrev pub writeElements : (depth row count : ℕ) → Encoder
@@ -38,25 +38,25 @@ module _ (rows members : List ℕ) where
   abbrev pub writeEnvelope : (depth row count ordinal : ℕ) → Encoder
   writeEnvelope depth row count ordinal =
       E.optionalEnvelope 8 (eqb ordinal count)
-      (writeContentOfEightBytes (typeTable rows members) (R.levels (typeTable rows members) depth) (contentOf (typeTable rows members) (aAt (typeTable rows members) row) (bAt (typeTable rows members) row) ordinal))
+      (writeContentOfEightBytes t (R.levels t depth) (contentOf t (aAt t row) (bAt t row) ordinal))
 
   module _ (values out out′ : List ℕ) (base depth : ℕ) where
     abbrev pub ValuePut : (at : ℕ) (c : Cursor) (row : ℕ) → Wrote → Type 0
-    ValuePut at c row r = Puts values out out′ (sizeOf (typeTable rows members) row) at base c r (writeRow depth row)
+    ValuePut at c row r = Puts values out out′ (sizeOf t row) at base c r (writeRow depth row)
 
     abbrev pub ElementsPut : (at : ℕ) (c : Cursor) (row count : ℕ) → Wrote → Type 0
-    ElementsPut at c row count r = Puts values out out′ (count * sizeOf (typeTable rows members) row) at base c r (writeElements depth row count)
+    ElementsPut at c row count r = Puts values out out′ (count * sizeOf t row) at base c r (writeElements depth row count)
 
     -- An object of an opening's count of values, from its claim on.
     abbrev pub ObjectOf : Opening → (row : ℕ) → Wrote → Type 0
-    ObjectOf x row r = ObjectPut values out out′ (x .count * sizeOf (typeTable rows members) row) base (claimedFrom x) r (writeElements depth row (x .count))
+    ObjectOf x row r = ObjectPut values out out′ (x .count * sizeOf t row) base (claimedFrom x) r (writeElements depth row (x .count))
 
     -- The same of an object of one value.
     abbrev pub SingleOf : Opening → (row : ℕ) → Wrote → Type 0
-    SingleOf x row r = ObjectPut values out out′ (sizeOf (typeTable rows members) row) base (claimedFrom x) r (writeRow depth row)
+    SingleOf x row r = ObjectPut values out out′ (sizeOf t row) base (claimedFrom x) r (writeRow depth row)
 
     abbrev pub EnvelopesPut : (c : Cursor) (row count : ℕ) → Wrote → Type 0
     EnvelopesPut c row count r = Puts values out out′ (count * 8) 0 base c r (E.elements (writeEnvelope depth row count) 1 count)
 
     abbrev pub ContentPut : (at : ℕ) (c : Cursor) → Ordinal → Wrote → Type 0
-    ContentPut at c what r = Puts values out out′ 8 at base c r (writeContentOfEightBytes (typeTable rows members) (R.levels (typeTable rows members) depth) (ordinalIs what))
+    ContentPut at c what r = Puts values out out′ 8 at base c r (writeContentOfEightBytes t (R.levels t depth) (ordinalIs what))

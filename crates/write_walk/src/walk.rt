@@ -60,9 +60,9 @@ pub fn value(
     handles: usize,
     index: usize,
 ) -> Wrote
-    requires { ⌜ Ready (now rows) (now members) (now sizes) (now alignments) depth row
+    requires { ⌜ Ready (typeTable (now rows) (now members)) (now sizes) (now alignments) depth row
         × Ask (now values) (sizeOf (typeTable (now rows) (now members)) row) at base (cursorAt next handles index) ⌝ }
-    ensures { λ r. ⌜ ValuePut (now (rows .entry)) (now (members .entry)) (now (values .entry)) (now (out .entry)) (now (out .exit)) base depth at (cursorAt next handles index) row r ⌝ }
+    ensures { λ r. ⌜ ValuePut (typeTable (now (rows .entry)) (now (members .entry))) (now (values .entry)) (now (out .entry)) (now (out .exit)) base depth at (cursorAt next handles index) row r ⌝ }
 {
     let c = Cursor {
         next,
@@ -140,9 +140,9 @@ fn elements(
     at: usize,
     c: Cursor,
 ) -> Wrote
-    requires { ⌜ Ready (now rows) (now members) (now sizes) (now alignments) depth row
+    requires { ⌜ Ready (typeTable (now rows) (now members)) (now sizes) (now alignments) depth row
         × Ask (now values) (count * sizeOf (typeTable (now rows) (now members)) row) at base c ⌝ }
-    ensures { λ r. ⌜ ElementsPut (now (rows .entry)) (now (members .entry)) (now (values .entry)) (now (out .entry)) (now (out .exit)) base depth at c row count r ⌝ }
+    ensures { λ r. ⌜ ElementsPut (typeTable (now (rows .entry)) (now (members .entry))) (now (values .entry)) (now (out .entry)) (now (out .exit)) base depth at c row count r ⌝ }
 {
     let kind = words::number_at(rows, row * 4);
     if kind == 2 {
@@ -200,9 +200,9 @@ fn composite(
     at: usize,
     c: Cursor,
 ) -> Wrote
-    requires { ⌜ Ready (now rows) (now members) (now sizes) (now alignments) depth row × (hasParts (now rows) row ≡ true)
+    requires { ⌜ Ready (typeTable (now rows) (now members)) (now sizes) (now alignments) depth row × (hasParts (now rows) row ≡ true)
         × Ask (now values) (sizeOf (typeTable (now rows) (now members)) row) at base c ⌝ }
-    ensures { λ r. ⌜ ValuePut (now (rows .entry)) (now (members .entry)) (now (values .entry)) (now (out .entry)) (now (out .exit)) base depth at c row r ⌝ }
+    ensures { λ r. ⌜ ValuePut (typeTable (now (rows .entry)) (now (members .entry))) (now (values .entry)) (now (out .entry)) (now (out .exit)) base depth at c row r ⌝ }
 {
     // one of bools and numbers alone goes by a plan, which can be only where its first member is one of them
     let first = words::number_at(rows, row * 4 + 1) as usize;
@@ -293,9 +293,9 @@ fn object(
     row: usize,
     x: Opening,
 ) -> Wrote
-    requires { ⌜ Ready (now rows) (now members) (now sizes) (now alignments) depth row
+    requires { ⌜ Ready (typeTable (now rows) (now members)) (now sizes) (now alignments) depth row
         × Claimed (now values) (x .count * sizeOf (typeTable (now rows) (now members)) row) base x ⌝ }
-    ensures { λ r. ⌜ ObjectOf (now (rows .entry)) (now (members .entry)) (now (values .entry)) (now (out .entry)) (now (out .exit)) base depth x row r ⌝ }
+    ensures { λ r. ⌜ ObjectOf (typeTable (now (rows .entry)) (now (members .entry))) (now (values .entry)) (now (out .entry)) (now (out .exit)) base depth x row r ⌝ }
 {
     let from = least(x.start - base, out.len());
     let wrote = elements(
@@ -330,9 +330,9 @@ fn single(
     row: usize,
     x: Opening,
 ) -> Wrote
-    requires { ⌜ Ready (now rows) (now members) (now sizes) (now alignments) depth row
+    requires { ⌜ Ready (typeTable (now rows) (now members)) (now sizes) (now alignments) depth row
         × Claimed (now values) (sizeOf (typeTable (now rows) (now members)) row) base x ⌝ }
-    ensures { λ r. ⌜ SingleOf (now (rows .entry)) (now (members .entry)) (now (values .entry)) (now (out .entry)) (now (out .exit)) base depth x row r ⌝ }
+    ensures { λ r. ⌜ SingleOf (typeTable (now (rows .entry)) (now (members .entry))) (now (values .entry)) (now (out .entry)) (now (out .exit)) base depth x row r ⌝ }
 {
     let from = least(x.start - base, out.len());
     let wrote = value(
@@ -369,9 +369,9 @@ fn out_of_line(
     at: usize,
     c: Cursor,
 ) -> Wrote
-    requires { ⌜ Ready (now rows) (now members) (now sizes) (now alignments) depth row × Outside (kindAt (typeTable (now rows) (now members)) row)
+    requires { ⌜ Ready (typeTable (now rows) (now members)) (now sizes) (now alignments) depth row × Outside (kindAt (typeTable (now rows) (now members)) row)
         × Ask (now values) (sizeOf (typeTable (now rows) (now members)) row) at base c ⌝ }
-    ensures { λ r. ⌜ ValuePut (now (rows .entry)) (now (members .entry)) (now (values .entry)) (now (out .entry)) (now (out .exit)) base depth at c row r ⌝ }
+    ensures { λ r. ⌜ ValuePut (typeTable (now (rows .entry)) (now (members .entry))) (now (values .entry)) (now (out .entry)) (now (out .exit)) base depth at c row r ⌝ }
 {
     let kind = words::number_at(rows, row * 4);
     let a = words::number_at(rows, row * 4 + 1) as usize;
@@ -471,9 +471,9 @@ fn envelopes(
     count: usize,
     c: Cursor,
 ) -> Wrote
-    requires { ⌜ Ready (now rows) (now members) (now sizes) (now alignments) depth row × (kindAt (typeTable (now rows) (now members)) row ≡ 9)
+    requires { ⌜ Ready (typeTable (now rows) (now members)) (now sizes) (now alignments) depth row × (kindAt (typeTable (now rows) (now members)) row ≡ 9)
         × Ask (now values) (count * 8) 0 base c ⌝ }
-    ensures { λ r. ⌜ EnvelopesPut (now (rows .entry)) (now (members .entry)) (now (values .entry)) (now (out .entry)) (now (out .exit)) base depth c row count r ⌝ }
+    ensures { λ r. ⌜ EnvelopesPut (typeTable (now (rows .entry)) (now (members .entry))) (now (values .entry)) (now (out .entry)) (now (out .exit)) base depth c row count r ⌝ }
 {
     let first = words::number_at(rows, row * 4 + 1) as usize;
     let known = words::number_at(rows, row * 4 + 2) as usize;
@@ -536,9 +536,9 @@ fn content(
     at: usize,
     c: Cursor,
 ) -> Wrote
-    requires { ⌜ Ready (now rows) (now members) (now sizes) (now alignments) depth row × OrdinalFits (now rows) (now members) what
+    requires { ⌜ Ready (typeTable (now rows) (now members)) (now sizes) (now alignments) depth row × OrdinalFits (typeTable (now rows) (now members)) what
         × Ask (now values) 8 at base c × (0 < c .index) ⌝ }
-    ensures { λ r. ⌜ ContentPut (now (rows .entry)) (now (members .entry)) (now (values .entry)) (now (out .entry)) (now (out .exit)) base depth at c what r ⌝ }
+    ensures { λ r. ⌜ ContentPut (typeTable (now (rows .entry)) (now (members .entry))) (now (values .entry)) (now (out .entry)) (now (out .exit)) base depth at c what r ⌝ }
 {
     match what {
         Ordinal::Unknown => unknown_content(values, out, base, depth, at, c),

@@ -30,8 +30,8 @@ fn primary(
     values: &[u64],
     out: &mut [u8],
 ) -> Wrote
-    requires { ⌜ Ready (now rows) (now members) (now sizes) (now alignments) 32 root ⌝ }
-    ensures { λ r. ⌜ PrimaryPut (now (rows .entry)) (now (members .entry)) (now (values .entry)) root (now (out .entry)) (now (out .exit)) r ⌝ }
+    requires { ⌜ Ready (typeTable (now rows) (now members)) (now sizes) (now alignments) 32 root ⌝ }
+    ensures { λ r. ⌜ PrimaryPut (typeTable (now (rows .entry)) (now (members .entry))) (now (values .entry)) root (now (out .entry)) (now (out .exit)) r ⌝ }
 {
     let size = words::number_at(sizes, root) as usize;
     let whole = (size + 7) / 8 * 8;
@@ -81,8 +81,8 @@ pub fn pass(
     values: &[u64],
     out: &mut [u8],
 ) -> Written
-    requires { ⌜ Ready (now rows) (now members) (now sizes) (now alignments) 32 root ⌝ }
-    ensures { λ r. ⌜ Passed (now (rows .entry)) (now (members .entry)) (now (values .entry)) root (now (out .entry)) (now (out .exit)) r ⌝ }
+    requires { ⌜ Ready (typeTable (now rows) (now members)) (now sizes) (now alignments) 32 root ⌝ }
+    ensures { λ r. ⌜ Passed (typeTable (now (rows .entry)) (now (members .entry))) (now (values .entry)) root (now (out .entry)) (now (out .exit)) r ⌝ }
 {
     match primary(rows, members, sizes, alignments, root as usize, values, out) {
         Wrote::Refused(s) => Written::Refused(fault_of(s)),

@@ -9,7 +9,7 @@ use Rattle.writer.proofs.write.Tie as tie
 returns : tie.Need-returns
 returns c =
     let accepted = c .before .before .before in
-    write-room _ _ _ _ _ (accepted .before .before .measure .ensures .0) (accepted .needed .given .1) _ (omega (arith, c .if1 .taken))
+    write-room _ _ _ _ (accepted .before .before .measure .ensures .0) (accepted .needed .given .1) _ (omega (arith, c .if1 .taken))
 
 slice-aggregate-pass : tie.Need-slice-aggregate-pass
 slice-aggregate-pass c = search (needs, lent-long)
@@ -18,14 +18,14 @@ pass-requires : tie.Need-pass-requires
 pass-requires c κs = search (needs, again-ready)
 
 returns-2 : tie.Need-returns-2
-returns-2 c = write-refused _ _ _ _ _ (c .before .before .before .measure .ensures .0) _ (c .before .f .given .1)
+returns-2 c = write-refused _ _ _ _ (c .before .before .before .measure .ensures .0) _ (c .before .f .given .1)
 
 returns-3 : tie.Need-returns-3
 returns-3 c =
     let walked = c .before .before in
     let fits = walked .before .before .before .before in
     let accepted = fits .before .before .before in
-    write-stored _ _ _ _ _ (accepted .before .before .measure .ensures .0) (accepted .needed .given .1) _ (walked .pass .ensures) (omega (arith, fits .if1 .left))
+    write-stored _ _ _ _ (accepted .before .before .measure .ensures .0) (accepted .needed .given .1) _ (walked .pass .ensures) (omega (arith, fits .if1 .left))
 
 pub write-spec : {M : Type 1} → statement M
 write-spec =

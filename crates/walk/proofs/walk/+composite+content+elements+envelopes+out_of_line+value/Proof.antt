@@ -143,7 +143,7 @@ composite-calls t = (number-at-reads.Asked, number-at-reads.Learnt, plan-of-read
 
 abbrev composite-Inv-loop : composite-lts.InvT-loop
 composite-Inv-loop rows members sizes alignments bytes held values₀ objects₀ depth row at first part kept₀ around₀ level₀ due₀ place₀ d₀ values objects kept around level due place d =
-    Ready rows members sizes alignments depth row × Walking rows members bytes held depth row at values₀ objects₀ d₀ (record { row = 0; done = 0; at = 0 }) alignments values objects kept around level due place d
+    Ready (typeTable rows members) sizes alignments depth row × Walking (typeTable rows members) bytes held depth row at values₀ objects₀ d₀ (record { row = 0; done = 0; at = 0 }) alignments values objects kept around level due place d
 
 abbrev composite-μ-loop : composite-lts.MeasureT-loop
 composite-μ-loop rows members sizes alignments bytes held values₀ objects₀ depth row at first part kept₀ around₀ level₀ due₀ place₀ d₀ values objects kept around level due place d =
@@ -412,7 +412,7 @@ content-value-requires t c κs =
     let at-what = at-number-at .before .before .before in
     let start = at-what .before .before .before .before .before .before .before in
     let l = level-left _ _ (at-known-opened .known-opened .ensures .1) (at-x .x .given .1) in
-    (omega (arith, start .pre .0, l, payload-few _ (start .pre .1 .0) (start .pre .1 .1) (at-what .what .given .1)), (payload-ready _ (start .pre .1 .0) (start .pre .1 .1) (at-what .what .given .1), payload-asks _ _ (start .args .bytes .now) _ _ _ _ (start .args .values .now) _ _ _ _ (start .pre .1 .0) (start .pre .1 .1) (at-what .what .given .1) (at-number-at .number-at .ensures) _ (at-known-opened .known-opened .ensures .0) (at-x .x .given .1)))
+    (omega (arith, start .pre .0, l, payload-few _ (start .pre .1 .0) (start .pre .1 .1) (at-what .what .given .1)), (payload-ready _ (start .pre .1 .0) (start .pre .1 .1) (at-what .what .given .1), payload-asks _ (start .args .bytes .now) _ _ _ _ (start .args .values .now) _ _ _ _ (start .pre .1 .0) (start .pre .1 .1) (at-what .what .given .1) (at-number-at .number-at .ensures) _ (at-known-opened .known-opened .ensures .0) (at-x .x .given .1)))
 
 content-sealed-requires : (t : ℕ) → content-lts.Need-sealed-requires (content-calls t) (content-at t) content.Post
 content-sealed-requires t c κs =
@@ -424,7 +424,7 @@ content-sealed-requires t c κs =
     let at-what = at-number-at .before .before .before in
     let start = at-what .before .before .before .before .before .before .before in
     let a = start .pre .1 .2 in
-    let p = payload-rises _ _ _ _ _ _ _ _ _ _ _ _ (start .pre .1 .0) (start .pre .1 .1) (at-what .what .given .1) (at-number-at .number-at .ensures) _ (at-known-opened .known-opened .ensures .0) (at-x .x .given .1) (at-value .value .ensures) (at-d2 .d2 .given .1) in
+    let p = payload-rises _ _ _ _ _ _ _ _ _ _ _ (start .pre .1 .0) (start .pre .1 .1) (at-what .what .given .1) (at-number-at .number-at .ensures) _ (at-known-opened .known-opened .ensures .0) (at-x .x .given .1) (at-value .value .ensures) (at-d2 .d2 .given .1) in
     (omega (arith, a .inside, a .short), payload-small _ (start .pre .1 .0) (start .pre .1 .1) (at-what .what .given .1) (at-number-at .number-at .ensures), p .0, p .1)
 
 content-returns : (t : ℕ) → content-lts.Need-returns (content-calls t) (content-at t) content.Post
@@ -449,8 +449,8 @@ elements-calls t = (number-at-reads.Asked, number-at-reads.Learnt, numbers-reads
 
 abbrev elements-Inv-loop : elements-lts.InvT-loop
 elements-Inv-loop rows members sizes alignments bytes held values₀ objects₀ depth row count at kind size d₀ place₀ left₀ values objects d place left =
-    RunLeft (length bytes) held (sizeOf (typeTable rows members) row) (λ k. walkRow rows members bytes held depth row) (count * sizeOf (typeTable rows members) row)
-    (D.elements (sizeOf (typeTable rows members) row) (λ k. walkRow rows members bytes held depth row) 0 count at (d₀ .next) (d₀ .handles)) values₀ values objects₀ objects d₀ d 0 left place
+    RunLeft (length bytes) held (sizeOf (typeTable rows members) row) (λ k. walkRow (typeTable rows members) bytes held depth row) (count * sizeOf (typeTable rows members) row)
+    (D.elements (sizeOf (typeTable rows members) row) (λ k. walkRow (typeTable rows members) bytes held depth row) 0 count at (d₀ .next) (d₀ .handles)) values₀ values objects₀ objects d₀ d 0 left place
     × (length values ≡ length values₀) × (length objects ≡ length objects₀)
 
 abbrev elements-μ-loop : elements-lts.MeasureT-loop
@@ -495,7 +495,7 @@ envelopes-calls t = (number-at-reads.Asked, number-at-reads.Learnt, load64-reads
 
 abbrev envelopes-Inv-loop : envelopes-lts.InvT-loop
 envelopes-Inv-loop rows members sizes alignments bytes held values₀ objects₀ depth row count at first known d₀ i₀ values objects d i =
-    EnvelopesLeft rows members bytes held depth row count at values₀ values objects₀ objects d₀ d i × (i ≤ count)
+    EnvelopesLeft (typeTable rows members) bytes held depth row count at values₀ values objects₀ objects d₀ d i × (i ≤ count)
     × (length values ≡ length values₀) × (length objects ≡ length objects₀)
 
 abbrev envelopes-μ-loop : envelopes-lts.MeasureT-loop
@@ -521,7 +521,7 @@ envelopes-content-requires t c κs =
     let at-number-at = at-number-at2 .before in
     let start = at-number-at .before .before .before .before .before .before in
     let m = table-members (start .pre .1 .0) refl (at-number-at .number-at .ensures) (at-number-at2 .number-at2 .ensures) (start .pre .1 .1) in
-    (omega (arith, start .pre .0), (start .pre .1 .0, ordinal-fits m _ (at-ordinal-of .ordinal-of .result) (ordinal-content m _ (at-ordinal-of .ordinal-of .result) (at-ordinal-of .ordinal-of .ensures)), content-asks _ _ _ _ _ _ _ _ _ _ _ (at-loop .loop .inv .0) (at-loop-test .loop-test .taken) (at-gave2 .gave2 .ensures .1)))
+    (omega (arith, start .pre .0), (start .pre .1 .0, ordinal-fits m _ (at-ordinal-of .ordinal-of .result) (ordinal-content m _ (at-ordinal-of .ordinal-of .result) (at-ordinal-of .ordinal-of .ensures)), content-asks _ _ _ _ _ _ _ _ _ _ (at-loop .loop .inv .0) (at-loop-test .loop-test .taken) (at-gave2 .gave2 .ensures .1)))
 
 envelopes-loop-again-2 : (t : ℕ) → envelopes-lts.Need-loop-again-2 (envelopes-calls t) (envelopes-at t) envelopes.Post envelopes-Inv-loop envelopes-μ-loop
 envelopes-loop-again-2 t c =
@@ -537,8 +537,8 @@ envelopes-loop-again-2 t c =
     let at-number-at = at-number-at2 .before in
     let start = at-number-at .before .before .before .before .before .before in
     let m = table-members (start .pre .1 .0) refl (at-number-at .number-at .ensures) (at-number-at2 .number-at2 .ensures) (start .pre .1 .1) in
-    let lengths = one-lengths _ _ _ _ _ _ _ _ _ _ _ (at-loop .loop .inv .0) (at-loop-test .loop-test .taken) (at-load64 .load64 .ensures) (at-ordinal-of .ordinal-of .result) (at-if1 .if1 .left) (at-number-at .number-at .ensures) (at-number-at2 .number-at2 .ensures) m (at-ordinal-of .ordinal-of .ensures) (at-gave2 .gave2 .ensures) (at-content .content .ensures) in
-    (one-present _ _ _ _ _ _ _ _ _ _ _ (at-loop .loop .inv .0) (at-loop-test .loop-test .taken) (at-load64 .load64 .ensures) (at-ordinal-of .ordinal-of .result) (at-if1 .if1 .left) (at-number-at .number-at .ensures) (at-number-at2 .number-at2 .ensures) m (at-ordinal-of .ordinal-of .ensures) (at-gave2 .gave2 .ensures) (at-content .content .ensures) (at-f .f .given .1), omega (arith, at-loop-test .loop-test .taken), lengths .0 ∙ at-loop .loop .inv .2, lengths .1 ∙ at-loop .loop .inv .3)
+    let lengths = one-lengths _ _ _ _ _ _ _ _ _ _ (at-loop .loop .inv .0) (at-loop-test .loop-test .taken) (at-load64 .load64 .ensures) (at-ordinal-of .ordinal-of .result) (at-if1 .if1 .left) (at-number-at .number-at .ensures) (at-number-at2 .number-at2 .ensures) m (at-ordinal-of .ordinal-of .ensures) (at-gave2 .gave2 .ensures) (at-content .content .ensures) in
+    (one-present _ _ _ _ _ _ _ _ _ _ (at-loop .loop .inv .0) (at-loop-test .loop-test .taken) (at-load64 .load64 .ensures) (at-ordinal-of .ordinal-of .result) (at-if1 .if1 .left) (at-number-at .number-at .ensures) (at-number-at2 .number-at2 .ensures) m (at-ordinal-of .ordinal-of .ensures) (at-gave2 .gave2 .ensures) (at-content .content .ensures) (at-f .f .given .1), omega (arith, at-loop-test .loop-test .taken), lengths .0 ∙ at-loop .loop .inv .2, lengths .1 ∙ at-loop .loop .inv .3)
 
 envelopes-returns-2 : (t : ℕ) → envelopes-lts.Need-returns-2 (envelopes-calls t) (envelopes-at t) envelopes.Post envelopes-Inv-loop envelopes-μ-loop
 envelopes-returns-2 t c =
@@ -554,7 +554,7 @@ envelopes-returns-2 t c =
     let at-number-at = at-number-at2 .before in
     let start = at-number-at .before .before .before .before .before .before in
     let m = table-members (start .pre .1 .0) refl (at-number-at .number-at .ensures) (at-number-at2 .number-at2 .ensures) (start .pre .1 .1) in
-    one-refused _ _ _ _ _ _ _ _ _ _ _ (at-loop .loop .inv .0) (at-loop-test .loop-test .taken) (at-load64 .load64 .ensures) (at-ordinal-of .ordinal-of .result) (at-if1 .if1 .left) (at-number-at .number-at .ensures) (at-number-at2 .number-at2 .ensures) m (at-ordinal-of .ordinal-of .ensures) (at-gave2 .gave2 .ensures) (at-content .content .ensures) (at-f2 .f2 .given .1)
+    one-refused _ _ _ _ _ _ _ _ _ _ (at-loop .loop .inv .0) (at-loop-test .loop-test .taken) (at-load64 .load64 .ensures) (at-ordinal-of .ordinal-of .result) (at-if1 .if1 .left) (at-number-at .number-at .ensures) (at-number-at2 .number-at2 .ensures) m (at-ordinal-of .ordinal-of .ensures) (at-gave2 .gave2 .ensures) (at-content .content .ensures) (at-f2 .f2 .given .1)
 
 envelopes-returns-3 : (t : ℕ) → envelopes-lts.Need-returns-3 (envelopes-calls t) (envelopes-at t) envelopes.Post envelopes-Inv-loop envelopes-μ-loop
 envelopes-returns-3 t c = search (needs, envelopes-end)
@@ -573,7 +573,7 @@ out-of-line-vector-opened-requires t c κs =
     let start = at-number-at .before .before .before .before .before .before in
     let r = start .pre .1 .0 in
     let h = vector-in-use r (at-number-at .number-at .ensures) (at-number-at2 .number-at2 .ensures) (at-if1 .if1 .taken) in
-    (vector-record _ _ _ (at-number-at .number-at .ensures) (start .pre .1 .2) (at-if1 .if1 .taken), omega (arith, row-few r), size-small r _ h (at-number-at5 .number-at5 .ensures))
+    (vector-record _ _ (at-number-at .number-at .ensures) (start .pre .1 .2) (at-if1 .if1 .taken), omega (arith, row-few r), size-small r _ h (at-number-at5 .number-at5 .ensures))
 
 out-of-line-sub-elements : (t : ℕ) → out-of-line-lts.Need-sub-elements (out-of-line-calls t) (out-of-line-at t) out-of-line.Post
 out-of-line-sub-elements t c = search (needs, level-left)
@@ -592,7 +592,7 @@ out-of-line-elements-requires t c κs =
     let r = start .pre .1 .0 in
     let h = vector-in-use r (at-number-at .number-at .ensures) (at-number-at2 .number-at2 .ensures) (at-if1 .if1 .taken) in
     let l = level-left _ _ (at-vector-opened .vector-opened .ensures .1) (at-x .x .given .1) in
-    let asks = vector-asks (start .args .rows .now) (start .args .members .now) (start .args .bytes .now) _ _ _ _ _ _ _ _ _ _ (at-number-at .number-at .ensures) (at-if1 .if1 .taken) (at-number-at2 .number-at2 .ensures) (at-number-at3 .number-at3 .ensures) (at-number-at4 .number-at4 .ensures) (start .pre .1 .0) (at-number-at5 .number-at5 .ensures) (at-vector-opened .vector-opened .ensures .0) (at-x .x .given .1) in
+    let asks = vector-asks (typeTable (start .args .rows .now) (start .args .members .now)) (start .args .bytes .now) _ _ _ _ _ _ _ _ _ _ (at-number-at .number-at .ensures) (at-if1 .if1 .taken) (at-number-at2 .number-at2 .ensures) (at-number-at3 .number-at3 .ensures) (at-number-at4 .number-at4 .ensures) (start .pre .1 .0) (at-number-at5 .number-at5 .ensures) (at-vector-opened .vector-opened .ensures .0) (at-x .x .given .1) in
     (omega (arith, start .pre .0, row-in-use r _ h, elements-few r _ h _ asks, l), (ready-at r _ _ (omega arith) h, asks))
 
 out-of-line-returns : (t : ℕ) → out-of-line-lts.Need-returns (out-of-line-calls t) (out-of-line-at t) out-of-line.Post
@@ -613,7 +613,7 @@ out-of-line-returns-3 t c =
     let at-number-at2 = at-number-at3 .before in
     let at-number-at = at-number-at2 .before in
     let start = at-number-at .before .before .before .before .before .before in
-    rw (c .passed-on .ensures) (vector-done _ _ _ _ _ _ _ _ _ _ _ _ _ (at-number-at .number-at .ensures) (at-if1 .if1 .taken) (at-number-at2 .number-at2 .ensures) (at-number-at3 .number-at3 .ensures) (at-number-at4 .number-at4 .ensures) (start .pre .1 .0) (at-number-at5 .number-at5 .ensures) (at-vector-opened .vector-opened .ensures .0) (at-x .x .given .1) (at-elements .elements .ensures))
+    rw (c .passed-on .ensures) (vector-done _ _ _ _ _ _ _ _ _ _ _ _ (at-number-at .number-at .ensures) (at-if1 .if1 .taken) (at-number-at2 .number-at2 .ensures) (at-number-at3 .number-at3 .ensures) (at-number-at4 .number-at4 .ensures) (start .pre .1 .0) (at-number-at5 .number-at5 .ensures) (at-vector-opened .vector-opened .ensures .0) (at-x .x .given .1) (at-elements .elements .ensures))
 
 out-of-line-box-opened-requires : (t : ℕ) → out-of-line-lts.Need-box-opened-requires (out-of-line-calls t) (out-of-line-at t) out-of-line.Post
 out-of-line-box-opened-requires t c κs =
@@ -624,7 +624,7 @@ out-of-line-box-opened-requires t c κs =
     let start = at-number-at .before .before .before .before .before .before in
     let r = start .pre .1 .0 in
     let h = box-in-use r (at-number-at .number-at .ensures) (at-number-at2 .number-at2 .ensures) (at-if2 .if2 .taken) in
-    (box-record _ _ _ (at-number-at .number-at .ensures) (start .pre .1 .2) (at-if2 .if2 .taken), omega (arith, row-in-use r _ h), size-small r _ h (at-number-at6 .number-at6 .ensures))
+    (box-record _ _ (at-number-at .number-at .ensures) (start .pre .1 .2) (at-if2 .if2 .taken), omega (arith, row-in-use r _ h), size-small r _ h (at-number-at6 .number-at6 .ensures))
 
 out-of-line-sub-value : (t : ℕ) → out-of-line-lts.Need-sub-value (out-of-line-calls t) (out-of-line-at t) out-of-line.Post
 out-of-line-sub-value t c = search (needs, level-left)
@@ -641,7 +641,7 @@ out-of-line-value-requires t c κs =
     let r = start .pre .1 .0 in
     let h = box-in-use r (at-number-at .number-at .ensures) (at-number-at2 .number-at2 .ensures) (at-if2 .if2 .taken) in
     let l = level-left _ _ (at-box-opened .box-opened .ensures .1) (at-x2 .x2 .given .1) in
-    (omega (arith, start .pre .0, row-in-use r _ h, l), (ready-at r _ _ (omega arith) h, box-asks (start .args .rows .now) (start .args .members .now) (start .args .bytes .now) _ _ _ _ _ _ _ _ _ _ (at-number-at .number-at .ensures) (at-if2 .if2 .taken) (at-number-at2 .number-at2 .ensures) (start .pre .1 .0) (at-number-at6 .number-at6 .ensures) (at-box-opened .box-opened .ensures .0) (at-x2 .x2 .given .1)))
+    (omega (arith, start .pre .0, row-in-use r _ h, l), (ready-at r _ _ (omega arith) h, box-asks (typeTable (start .args .rows .now) (start .args .members .now)) (start .args .bytes .now) _ _ _ _ _ _ _ _ _ _ (at-number-at .number-at .ensures) (at-if2 .if2 .taken) (at-number-at2 .number-at2 .ensures) (start .pre .1 .0) (at-number-at6 .number-at6 .ensures) (at-box-opened .box-opened .ensures .0) (at-x2 .x2 .given .1)))
 
 out-of-line-returns-4 : (t : ℕ) → out-of-line-lts.Need-returns-4 (out-of-line-calls t) (out-of-line-at t) out-of-line.Post
 out-of-line-returns-4 t c = search (needs, box-absent, c .before .before .before .before .before .before .before .before .before .before .before .before .before .before .before .before .before .before .before .before .before .before .before .pre .1 .0)
@@ -659,14 +659,14 @@ out-of-line-returns-6 t c =
     let at-number-at2 = at-if2 .before .before .before .before in
     let at-number-at = at-number-at2 .before in
     let start = at-number-at .before .before .before .before .before .before in
-    rw (c .passed-on2 .ensures) (box-done _ _ _ _ _ _ _ _ _ _ _ _ _ (at-number-at .number-at .ensures) (at-if2 .if2 .taken) (at-number-at2 .number-at2 .ensures) (start .pre .1 .0) (at-number-at6 .number-at6 .ensures) (at-box-opened .box-opened .ensures .0) (at-x2 .x2 .given .1) (at-value .value .ensures))
+    rw (c .passed-on2 .ensures) (box-done _ _ _ _ _ _ _ _ _ _ _ _ (at-number-at .number-at .ensures) (at-if2 .if2 .taken) (at-number-at2 .number-at2 .ensures) (start .pre .1 .0) (at-number-at6 .number-at6 .ensures) (at-box-opened .box-opened .ensures .0) (at-x2 .x2 .given .1) (at-value .value .ensures))
 
 out-of-line-table-opened-requires : (t : ℕ) → out-of-line-lts.Need-table-opened-requires (out-of-line-calls t) (out-of-line-at t) out-of-line.Post
 out-of-line-table-opened-requires t c κs =
     let at-if3 = c .before .before in
     let at-number-at = at-if3 .before .before .before .before .before .before in
     let start = at-number-at .before .before .before .before .before .before in
-    (table-record _ _ _ (at-number-at .number-at .ensures) (start .pre .1 .2) (at-if3 .if3 .taken), omega (arith, row-few (start .pre .1 .0)))
+    (table-record _ _ (at-number-at .number-at .ensures) (start .pre .1 .2) (at-if3 .if3 .taken), omega (arith, row-few (start .pre .1 .0)))
 
 out-of-line-sub-envelopes : (t : ℕ) → out-of-line-lts.Need-sub-envelopes (out-of-line-calls t) (out-of-line-at t) out-of-line.Post
 out-of-line-sub-envelopes t c = search (needs, level-left)
@@ -680,7 +680,7 @@ out-of-line-envelopes-requires t c κs =
     let start = at-number-at .before .before .before .before .before .before in
     let r = start .pre .1 .0 in
     let l = level-left _ _ (at-table-opened .table-opened .ensures .1) (at-x3 .x3 .given .1) in
-    let asks = table-asks (start .args .rows .now) (start .args .members .now) (start .args .bytes .now) _ _ _ _ _ _ _ _ _ _ (at-number-at .number-at .ensures) (at-if3 .if3 .taken) (at-table-opened .table-opened .ensures .0) (at-x3 .x3 .given .1) in
+    let asks = table-asks (typeTable (start .args .rows .now) (start .args .members .now)) (start .args .bytes .now) _ _ _ _ _ _ _ _ _ _ (at-number-at .number-at .ensures) (at-if3 .if3 .taken) (start .pre .1 .0) (at-table-opened .table-opened .ensures .0) (at-x3 .x3 .given .1) in
     (omega (arith, start .pre .0, asks .inside, asks .short, l), (ready-at r _ _ (omega arith) (r .in-use), sym (at-number-at .number-at .ensures) ∙ at-if3 .if3 .taken, asks))
 
 out-of-line-returns-7 : (t : ℕ) → out-of-line-lts.Need-returns-7 (out-of-line-calls t) (out-of-line-at t) out-of-line.Post
@@ -696,7 +696,8 @@ out-of-line-returns-9 t c =
     let at-table-opened = at-x3 .before .before .before .before .before .before in
     let at-if3 = at-table-opened .before .before .before in
     let at-number-at = at-if3 .before .before .before .before .before .before in
-    rw (c .passed-on3 .ensures) (table-done _ _ _ _ _ _ _ _ _ _ _ _ _ (at-number-at .number-at .ensures) (at-if3 .if3 .taken) (at-table-opened .table-opened .ensures .0) (at-x3 .x3 .given .1) (at-envelopes .envelopes .ensures))
+    let start = at-number-at .before .before .before .before .before .before in
+    rw (c .passed-on3 .ensures) (table-done _ _ _ _ _ _ _ _ _ _ _ _ (at-number-at .number-at .ensures) (at-if3 .if3 .taken) (start .pre .1 .0) (at-table-opened .table-opened .ensures .0) (at-x3 .x3 .given .1) (at-envelopes .envelopes .ensures))
 
 out-of-line-union-member-requires : (t : ℕ) → out-of-line-lts.Need-union-member-requires (out-of-line-calls t) (out-of-line-at t) out-of-line.Post
 out-of-line-union-member-requires t c κs =
@@ -711,7 +712,7 @@ out-of-line-union-member-requires t c κs =
     let r = start .pre .1 .0 in
     let q = union-else r (at-number-at .number-at .ensures) (start .pre .1 .1) (at-if1 .if1 .left) (at-if2 .if2 .left) (at-if3 .if3 .left) in
     let m = union-members r (at-number-at .number-at .ensures) (at-number-at2 .number-at2 .ensures) (at-number-at3 .number-at3 .ensures) q in
-    (union-record _ _ _ (at-number-at .number-at .ensures) (start .pre .1 .2) q, omega (arith, m .1, at-number-at4 .number-at4 .ensures), m .0 .exist, members-rise (m .0))
+    (union-record _ _ (at-number-at .number-at .ensures) (start .pre .1 .2) (start .pre .1 .0 .edition) q, omega (arith, m .1, at-number-at4 .number-at4 .ensures), m .0 .exist, members-rise (m .0))
 
 out-of-line-add-content : (t : ℕ) → out-of-line-lts.Need-add-content (out-of-line-calls t) (out-of-line-at t) out-of-line.Post
 out-of-line-add-content t c =
@@ -722,7 +723,7 @@ out-of-line-add-content t c =
     let start = at-number-at .before .before .before .before .before .before in
     let r = start .pre .1 .0 in
     let q = union-else r (at-number-at .number-at .ensures) (start .pre .1 .1) (at-if1 .if1 .left) (at-if2 .if2 .left) (at-if3 .if3 .left) in
-    let a = union-record _ _ _ (at-number-at .number-at .ensures) (start .pre .1 .2) q in
+    let a = union-record _ _ (at-number-at .number-at .ensures) (start .pre .1 .2) (start .pre .1 .0 .edition) q in
     omega (arith, a .inside, a .short)
 
 out-of-line-content-requires : (t : ℕ) → out-of-line-lts.Need-content-requires (out-of-line-calls t) (out-of-line-at t) out-of-line.Post
@@ -740,7 +741,7 @@ out-of-line-content-requires t c κs =
     let r = start .pre .1 .0 in
     let q = union-else r (at-number-at .number-at .ensures) (start .pre .1 .1) (at-if1 .if1 .left) (at-if2 .if2 .left) (at-if3 .if3 .left) in
     let m = union-members r (at-number-at .number-at .ensures) (at-number-at2 .number-at2 .ensures) (at-number-at3 .number-at3 .ensures) q in
-    let a = union-asks (start .args .rows .now) (start .args .members .now) (start .args .bytes .now) _ _ _ _ _ _ (start .args .objects .now) _ _ (at-number-at .number-at .ensures) (at-number-at2 .number-at2 .ensures) (at-number-at3 .number-at3 .ensures) (at-number-at4 .number-at4 .ensures) q (at-union-member .union-member .ensures .0) (at-what .what .given .1) (union-record _ _ _ (at-number-at .number-at .ensures) (start .pre .1 .2) q) in
+    let a = union-asks (typeTable (start .args .rows .now) (start .args .members .now)) (start .args .bytes .now) _ _ _ _ _ _ (start .args .objects .now) _ _ (at-number-at .number-at .ensures) (at-number-at2 .number-at2 .ensures) (at-number-at3 .number-at3 .ensures) (at-number-at4 .number-at4 .ensures) q (start .pre .1 .0) (at-union-member .union-member .ensures .0) (at-what .what .given .1) (union-record _ _ (at-number-at .number-at .ensures) (start .pre .1 .2) (start .pre .1 .0 .edition) q) in
     (omega (arith, start .pre .0), (r, member-fits (m .0) _ _ _ (at-union-member .union-member .ensures .1) (at-what .what .given .1), a))
 
 out-of-line-returns-10 : (t : ℕ) → out-of-line-lts.Need-returns-10 (out-of-line-calls t) (out-of-line-at t) out-of-line.Post
@@ -763,7 +764,7 @@ out-of-line-returns-12 t c =
     let at-number-at = at-number-at2 .before in
     let start = at-number-at .before .before .before .before .before .before in
     let q = union-else (start .pre .1 .0) (at-number-at .number-at .ensures) (start .pre .1 .1) (at-if1 .if1 .left) (at-if2 .if2 .left) (at-if3 .if3 .left) in
-    rw (c .passed-on4 .ensures) (union-done _ _ _ _ _ _ _ _ _ _ _ _ (at-number-at .number-at .ensures) (at-number-at2 .number-at2 .ensures) (at-number-at3 .number-at3 .ensures) (at-number-at4 .number-at4 .ensures) q (at-union-member .union-member .ensures .0) (at-what .what .given .1) (at-content .content .ensures))
+    rw (c .passed-on4 .ensures) (union-done _ _ _ _ _ _ _ _ _ _ _ (at-number-at .number-at .ensures) (at-number-at2 .number-at2 .ensures) (at-number-at3 .number-at3 .ensures) (at-number-at4 .number-at4 .ensures) q (start .pre .1 .0) (at-union-member .union-member .ensures .0) (at-what .what .given .1) (at-content .content .ensures))
 
 -- ---- value: a value of any kind
 
@@ -788,7 +789,7 @@ value-returns-2 t c =
     let at-number-at2 = at-if2 .before .before in
     let at-number-at = at-number-at2 .before in
     let start = at-number-at .before .before .before .before .before .before in
-    value-number _ _ _ _ _ _ _ _ _ _ _ _ (at-number-at .number-at .ensures) (at-if2 .if2 .taken) (at-number-at2 .number-at2 .ensures) (number-ask (start .pre .1 .0) (at-number-at .number-at .ensures) (at-if2 .if2 .taken) (at-number-at2 .number-at2 .ensures) .1) (start .pre .1 .1 .free) (start .pre .1 .1 .held) (at-number .number .ensures)
+    value-number _ _ _ _ _ _ _ _ _ _ _ (at-number-at .number-at .ensures) (at-if2 .if2 .taken) (at-number-at2 .number-at2 .ensures) (number-ask (start .pre .1 .0) (at-number-at .number-at .ensures) (at-if2 .if2 .taken) (at-number-at2 .number-at2 .ensures) .1) (start .pre .1 .1 .free) (start .pre .1 .1 .held) (at-number .number .ensures)
 
 value-returns-3 : (t : ℕ) → value-lts.Need-returns-3 (value-calls t) (value-at t) value.Post
 value-returns-3 t c = search (needs, value-handle)
@@ -824,7 +825,7 @@ value-string-requires t c κs =
     let at-if7 = c .before .before .before .before in
     let at-number-at = at-if7 .before .before .before .before .before .before in
     let start = at-number-at .before .before .before .before .before .before in
-    (string-ask _ _ _ (at-number-at .number-at .ensures) (at-if7 .if7 .taken) (start .pre .1 .1), omega (arith, row-few (start .pre .1 .0)))
+    (string-ask _ _ (at-number-at .number-at .ensures) (at-if7 .if7 .taken) (start .pre .1 .1), omega (arith, row-few (start .pre .1 .0)))
 
 value-returns-7 : (t : ℕ) → value-lts.Need-returns-7 (value-calls t) (value-at t) value.Post
 value-returns-7 t c = search (needs, value-string)
@@ -838,7 +839,7 @@ value-out-of-line-requires t c κs =
     let at-if1 = at-if2 .before in
     let at-number-at = at-if1 .before .before in
     let start = at-number-at .before .before .before .before .before .before in
-    (omega (arith, start .pre .0), (start .pre .1 .0, outside-left (start .args .rows .now) (start .args .members .now) (start .args .row) (at-number-at .number-at .ensures) (at-if1 .if1 .left) (at-if2 .if2 .left) (at-if3 .if3 .left) (at-if4 .if4 .left) (at-if7 .if7 .left), start .pre .1 .1))
+    (omega (arith, start .pre .0), (start .pre .1 .0, outside-left (typeTable (start .args .rows .now) (start .args .members .now)) (start .args .row) (at-number-at .number-at .ensures) (at-if1 .if1 .left) (at-if2 .if2 .left) (at-if3 .if3 .left) (at-if4 .if4 .left) (at-if7 .if7 .left), start .pre .1 .1))
 
 value-same-length-6 : (t : ℕ) → value-lts.Need-same-length-6 (value-calls t) (value-at t) value.Post
 value-same-length-6 t c = search needs

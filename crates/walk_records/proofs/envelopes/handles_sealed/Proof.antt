@@ -6,10 +6,10 @@ use Rattle.walk_records.proofs.envelopes.handles_sealed.Statement.{stat
 use Rattle.walk_records.proofs.envelopes.handles_sealed.Tie as tie
 
 returns : tie.Need-returns
-returns c = λ rows members values objects handles h k. search (needs, handles-wrong)
+returns c = λ t values objects handles h k. search (needs, handles-wrong)
 
 returns-2 : tie.Need-returns-2
-returns-2 c = λ rows members values objects handles h k. search (needs, handles-right)
+returns-2 c = λ t values objects handles h k. search (needs, handles-right)
 
 pub handles-sealed-spec : {M : Type 1} → statement M
 handles-sealed-spec =

@@ -32,13 +32,13 @@ returns c =
     let at-d = at-taken .before .before in
     let at-claim = at-d .before .before .before .before in
     let start = at-claim .before .before .before .before .before in
-    λ rows members. words-given _ _ _ _ _ _ _ _ _ (start .pre .0) (at-claim .claim .ensures) (at-d .d .given .1) (at-taken .taken .ensures) (at-e .e .given .1) rows members _ _ (at-numbers .numbers .ensures)
+    λ t. words-given _ _ _ _ _ _ _ _ _ (start .pre .0) (at-claim .claim .ensures) (at-d .d .given .1) (at-taken .taken .ensures) (at-e .e .given .1) t _ _ (at-numbers .numbers .ensures)
 
 returns-2 : tie.Need-returns-2
-returns-2 c = λ rows members. search (needs, handles-refused)
+returns-2 c = λ t. search (needs, handles-refused)
 
 returns-3 : tie.Need-returns-3
-returns-3 c = λ rows members. search (needs, claim-refused)
+returns-3 c = λ t. search (needs, claim-refused)
 
 pub raw-words-spec : {M : Type 1} → statement M
 raw-words-spec =

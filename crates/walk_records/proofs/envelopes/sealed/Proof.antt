@@ -6,16 +6,16 @@ use Rattle.walk_records.proofs.envelopes.sealed.Statement.{statement}
 use Rattle.walk_records.proofs.envelopes.sealed.Tie as tie
 
 returns : tie.Need-returns
-returns c = λ rows members values objects handles h k. search (needs, fill-wrong)
+returns c = λ t values objects handles h k. search (needs, fill-wrong)
 
 returns-2 : tie.Need-returns-2
-returns-2 c = λ rows members values objects handles h k. search (needs, fill-right, c .handles-sealed .ensures)
+returns-2 c = λ t values objects handles h k. search (needs, fill-right, c .handles-sealed .ensures)
 
 returns-3 : tie.Need-returns-3
-returns-3 c = λ rows members values objects handles h k. search (needs, bytes-wrong)
+returns-3 c = λ t values objects handles h k. search (needs, bytes-wrong)
 
 returns-4 : tie.Need-returns-4
-returns-4 c = λ rows members values objects handles h k. search (needs, bytes-right, c .handles-sealed2 .ensures)
+returns-4 c = λ t values objects handles h k. search (needs, bytes-right, c .handles-sealed2 .ensures)
 
 pub sealed-spec : {M : Type 1} → statement M
 sealed-spec =

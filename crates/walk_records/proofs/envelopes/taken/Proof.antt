@@ -6,10 +6,10 @@ use Rattle.walk_records.proofs.envelopes.taken.Statement.{statement}
 use Rattle.walk_records.proofs.envelopes.taken.Tie as tie
 
 returns : tie.Need-returns
-returns c = λ rows members bytes values objects content from h. search (needs, taken-few)
+returns c = λ t bytes values objects content from h. search (needs, taken-few)
 
 returns-2 : tie.Need-returns-2
-returns-2 c = λ rows members bytes values objects content from h. search (needs, taken-all)
+returns-2 c = λ t bytes values objects content from h. search (needs, taken-all)
 
 pub taken-spec : {M : Type 1} → statement M
 taken-spec =

@@ -8,15 +8,15 @@ use Rattle.walk_records.proofs.envelopes.unknown_content.Tie as tie
 returns : tie.Need-returns
 returns c =
     let at-unknown-in-line = c .before .before in
-    λ rows members. search (needs, form-in-line, at-unknown-in-line .unknown-in-line .ensures)
+    λ t. search (needs, form-in-line, at-unknown-in-line .unknown-in-line .ensures)
 
 returns-2 : tie.Need-returns-2
 returns-2 c =
     let at-unknown-out-of-line = c .before .before .before .before in
-    λ rows members. search (needs, form-out-of-line, at-unknown-out-of-line .unknown-out-of-line .ensures)
+    λ t. search (needs, form-out-of-line, at-unknown-out-of-line .unknown-out-of-line .ensures)
 
 returns-3 : tie.Need-returns-3
-returns-3 c = λ rows members. search (needs, form-neither)
+returns-3 c = λ t. search (needs, form-neither)
 
 pub unknown-content-spec : {M : Type 1} → statement M
 unknown-content-spec =

@@ -9,7 +9,7 @@ use Rattle.walk_records.proofs.envelopes.unknown_in_line.Statement.{sta
 use Rattle.walk_records.proofs.envelopes.unknown_in_line.Tie as tie
 
 returns : tie.Need-returns
-returns c = λ rows members objects. search (needs, too-deep)
+returns c = λ t objects. search (needs, too-deep)
 
 gave-requires-2 : tie.Need-gave-requires-2
 gave-requires-2 c κs =
@@ -44,7 +44,7 @@ returns-2 c =
     let at-load32 = at-load16 .before in
     let at-if1 = at-load32 .before in
     let start = at-if1 .before .before .before in
-    λ rows members objects. raw-in-line rows members _ _ objects _ _ _ _ (at-if1 .if1 .left) (start .pre .free) (at-load32 .load32 .ensures) (at-load16 .load16 .ensures)
+    λ t objects. raw-in-line t _ _ objects _ _ _ _ (at-if1 .if1 .left) (start .pre .free) (at-load32 .load32 .ensures) (at-load16 .load16 .ensures)
     (at-gave .gave .ensures) (at-gave2 .gave2 .ensures) (at-gave3 .gave3 .ensures) (c .taken .ensures)
 
 pub unknown-in-line-spec : {M : Type 1} → statement M

@@ -9,7 +9,7 @@ use Rattle.walk_records.proofs.envelopes.unknown_out_of_line.Statement.
 use Rattle.walk_records.proofs.envelopes.unknown_out_of_line.Tie as tie
 
 returns : tie.Need-returns
-returns c = λ rows members. search (needs, too-deep)
+returns c = λ t. search (needs, too-deep)
 
 gave-requires-2 : tie.Need-gave-requires-2
 gave-requires-2 c κs =
@@ -33,7 +33,7 @@ returns-2 c =
     let at-load16 = at-gave .before .before in
     let at-load32 = at-load16 .before in
     let at-if1 = at-load32 .before in
-    λ rows members. raw-out-of-line rows members _ _ _ _ _ _ _ _ _ (at-if1 .if1 .left) (at-load32 .load32 .ensures) (at-load16 .load16 .ensures) (at-gave .gave .ensures) (at-gave2 .gave2 .ensures) (at-raw-words .raw-words .ensures)
+    λ t. raw-out-of-line t _ _ _ _ _ _ _ _ _ (at-if1 .if1 .left) (at-load32 .load32 .ensures) (at-load16 .load16 .ensures) (at-gave .gave .ensures) (at-gave2 .gave2 .ensures) (at-raw-words .raw-words .ensures)
 
 pub unknown-out-of-line-spec : {M : Type 1} → statement M
 unknown-out-of-line-spec =

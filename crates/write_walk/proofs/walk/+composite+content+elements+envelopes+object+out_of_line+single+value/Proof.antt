@@ -166,7 +166,7 @@ composite-calls t = (number-at-reads.Asked, number-at-reads.Learnt, plan-of-read
 
 abbrev composite-Inv-loop : composite-lts.InvT-loop
 composite-Inv-loop rows members sizes alignments values out₀ base depth row at first part kept₀ around₀ level₀ due₀ place₀ d₀ out kept around level due place d =
-    Ready rows members sizes alignments depth row × Writing (record { row = 0; done = 0; at = 0 }) rows members alignments values base depth row at out₀ d₀ out kept around level due place d
+    Ready (typeTable rows members) sizes alignments depth row × Writing (record { row = 0; done = 0; at = 0 }) (typeTable rows members) alignments values base depth row at out₀ d₀ out kept around level due place d
 
 abbrev composite-μ-loop : composite-lts.MeasureT-loop
 composite-μ-loop rows members sizes alignments values out₀ base depth row at first part kept₀ around₀ level₀ due₀ place₀ d₀ out kept around level due place d =
@@ -345,7 +345,7 @@ content-value-requires t c κs =
     let at-number-at = at-if1 .before in
     let at-what = at-number-at .before .before .before in
     let start = at-what .before .before .before .before .before .before in
-    (omega (arith, start .pre .0, at-if2 .if2 .left, payload-few _ (start .pre .1 .0) (start .pre .1 .1) (at-what .what .given .1)), (payload-ready _ (start .pre .1 .0) (start .pre .1 .1) (at-what .what .given .1), small-asks _ _ _ (start .args .out .now) _ _ _ _ _ _ (start .pre .1 .0) (start .pre .1 .1) (at-what .what .given .1) (at-number-at .number-at .ensures) (start .pre .1 .2) (omega (arith, at-if1 .if1 .taken)) (λ z. omega (arith, z, at-if2 .if2 .left))))
+    (omega (arith, start .pre .0, at-if2 .if2 .left, payload-few _ (start .pre .1 .0) (start .pre .1 .1) (at-what .what .given .1)), (payload-ready _ (start .pre .1 .0) (start .pre .1 .1) (at-what .what .given .1), small-asks _ _ (start .args .out .now) _ _ _ _ _ _ (start .pre .1 .0) (start .pre .1 .1) (at-what .what .given .1) (at-number-at .number-at .ensures) (start .pre .1 .2) (omega (arith, at-if1 .if1 .taken)) (λ z. omega (arith, z, at-if2 .if2 .left))))
 
 content-sub-sealed : (t : ℕ) → content-lts.Need-sub-sealed (content-calls t) (content-at t) content.Post
 content-sub-sealed t c =
@@ -378,7 +378,7 @@ content-returns-3 t c =
     let at-number-at = at-if1 .before in
     let at-what = at-number-at .before .before .before in
     let start = at-what .before .before .before .before .before .before in
-    small-sealed _ _ _ _ _ _ _ _ _ _ (start .pre .1 .0) (start .pre .1 .1) (at-what .what .given .1) (at-number-at .number-at .ensures) (start .pre .1 .2) (omega (arith, at-if1 .if1 .taken)) (λ z. omega (arith, z, at-if2 .if2 .left)) (at-value .value .ensures) (at-d .d .given .1) refl (at-sealed .sealed .ensures)
+    small-sealed _ _ _ _ _ _ _ _ _ (start .pre .1 .0) (start .pre .1 .1) (at-what .what .given .1) (at-number-at .number-at .ensures) (start .pre .1 .2) (omega (arith, at-if1 .if1 .taken)) (λ z. omega (arith, z, at-if2 .if2 .left)) (at-value .value .ensures) (at-d .d .given .1) refl (at-sealed .sealed .ensures)
 
 content-deeper-requires : (t : ℕ) → content-lts.Need-deeper-requires (content-calls t) (content-at t) content.Post
 content-deeper-requires t c κs =
@@ -401,7 +401,7 @@ content-single-requires t c κs =
     let at-number-at = at-if1 .before in
     let at-what = at-number-at .before .before .before in
     let start = at-what .before .before .before .before .before .before in
-    let l = level-left _ _ (at-deeper .deeper .ensures .2) (at-x .x .given .1) in (omega (arith, start .pre .0, l, payload-few _ (start .pre .1 .0) (start .pre .1 .1) (at-what .what .given .1)), (payload-ready _ (start .pre .1 .0) (start .pre .1 .1) (at-what .what .given .1), payload-claimed _ _ _ (start .args .out .now) _ _ _ _ _ _ (start .pre .1 .0) (start .pre .1 .1) (at-what .what .given .1) (at-number-at .number-at .ensures) (start .pre .1 .2) (omega (arith, at-if1 .if1 .left)) _ (at-deeper .deeper .ensures .0) (at-x .x .given .1)))
+    let l = level-left _ _ (at-deeper .deeper .ensures .2) (at-x .x .given .1) in (omega (arith, start .pre .0, l, payload-few _ (start .pre .1 .0) (start .pre .1 .1) (at-what .what .given .1)), (payload-ready _ (start .pre .1 .0) (start .pre .1 .1) (at-what .what .given .1), payload-claimed _ _ (start .args .out .now) _ _ _ _ _ _ (start .pre .1 .0) (start .pre .1 .1) (at-what .what .given .1) (at-number-at .number-at .ensures) (start .pre .1 .2) (omega (arith, at-if1 .if1 .left)) _ (at-deeper .deeper .ensures .0) (at-x .x .given .1)))
 
 content-sub-bytes : (t : ℕ) → content-lts.Need-sub-bytes (content-calls t) (content-at t) content.Post
 content-sub-bytes t c =
@@ -413,7 +413,7 @@ content-sub-bytes t c =
     let at-number-at = at-if1 .before in
     let at-what = at-number-at .before .before .before in
     let start = at-what .before .before .before .before .before .before in
-    omega (arith, large-rises _ _ _ _ _ _ _ _ _ _ (start .pre .1 .0) (start .pre .1 .1) (at-what .what .given .1) (at-number-at .number-at .ensures) (start .pre .1 .2) (omega (arith, at-if1 .if1 .left)) _ (at-deeper .deeper .ensures .0) (at-x .x .given .1) (at-single .single .ensures) (at-d3 .d3 .given .1))
+    omega (arith, large-rises _ _ _ _ _ _ _ _ _ (start .pre .1 .0) (start .pre .1 .1) (at-what .what .given .1) (at-number-at .number-at .ensures) (start .pre .1 .2) (omega (arith, at-if1 .if1 .left)) _ (at-deeper .deeper .ensures .0) (at-x .x .given .1) (at-single .single .ensures) (at-d3 .d3 .given .1))
 
 content-cast-sealed-2 : (t : ℕ) → content-lts.Need-cast-sealed-2 (content-calls t) (content-at t) content.Post
 content-cast-sealed-2 t c =
@@ -425,7 +425,7 @@ content-cast-sealed-2 t c =
     let at-number-at = at-if1 .before in
     let at-what = at-number-at .before .before .before in
     let start = at-what .before .before .before .before .before .before in
-    record { fits = omega (arith, large-rises _ _ _ _ _ _ _ _ _ _ (start .pre .1 .0) (start .pre .1 .1) (at-what .what .given .1) (at-number-at .number-at .ensures) (start .pre .1 .2) (omega (arith, at-if1 .if1 .left)) _ (at-deeper .deeper .ensures .0) (at-x .x .given .1) (at-single .single .ensures) (at-d3 .d3 .given .1)) }
+    record { fits = omega (arith, large-rises _ _ _ _ _ _ _ _ _ (start .pre .1 .0) (start .pre .1 .1) (at-what .what .given .1) (at-number-at .number-at .ensures) (start .pre .1 .2) (omega (arith, at-if1 .if1 .left)) _ (at-deeper .deeper .ensures .0) (at-x .x .given .1) (at-single .single .ensures) (at-d3 .d3 .given .1)) }
 
 content-sub-sealed-2 : (t : ℕ) → content-lts.Need-sub-sealed-2 (content-calls t) (content-at t) content.Post
 content-sub-sealed-2 t c =
@@ -437,7 +437,7 @@ content-sub-sealed-2 t c =
     let at-number-at = at-if1 .before in
     let at-what = at-number-at .before .before .before in
     let start = at-what .before .before .before .before .before .before in
-    omega (arith, large-rises _ _ _ _ _ _ _ _ _ _ (start .pre .1 .0) (start .pre .1 .1) (at-what .what .given .1) (at-number-at .number-at .ensures) (start .pre .1 .2) (omega (arith, at-if1 .if1 .left)) _ (at-deeper .deeper .ensures .0) (at-x .x .given .1) (at-single .single .ensures) (at-d3 .d3 .given .1))
+    omega (arith, large-rises _ _ _ _ _ _ _ _ _ (start .pre .1 .0) (start .pre .1 .1) (at-what .what .given .1) (at-number-at .number-at .ensures) (start .pre .1 .2) (omega (arith, at-if1 .if1 .left)) _ (at-deeper .deeper .ensures .0) (at-x .x .given .1) (at-single .single .ensures) (at-d3 .d3 .given .1))
 
 content-cast-sealed-3 : (t : ℕ) → content-lts.Need-cast-sealed-3 (content-calls t) (content-at t) content.Post
 content-cast-sealed-3 t c =
@@ -449,7 +449,7 @@ content-cast-sealed-3 t c =
     let at-number-at = at-if1 .before in
     let at-what = at-number-at .before .before .before in
     let start = at-what .before .before .before .before .before .before in
-    record { fits = omega (arith, large-rises _ _ _ _ _ _ _ _ _ _ (start .pre .1 .0) (start .pre .1 .1) (at-what .what .given .1) (at-number-at .number-at .ensures) (start .pre .1 .2) (omega (arith, at-if1 .if1 .left)) _ (at-deeper .deeper .ensures .0) (at-x .x .given .1) (at-single .single .ensures) (at-d3 .d3 .given .1)) }
+    record { fits = omega (arith, large-rises _ _ _ _ _ _ _ _ _ (start .pre .1 .0) (start .pre .1 .1) (at-what .what .given .1) (at-number-at .number-at .ensures) (start .pre .1 .2) (omega (arith, at-if1 .if1 .left)) _ (at-deeper .deeper .ensures .0) (at-x .x .given .1) (at-single .single .ensures) (at-d3 .d3 .given .1)) }
 
 content-sealed-requires-2 : (t : ℕ) → content-lts.Need-sealed-requires-2 (content-calls t) (content-at t) content.Post
 content-sealed-requires-2 t c κs =
@@ -469,7 +469,7 @@ content-returns-5 t c =
     let at-number-at = at-if1 .before in
     let at-what = at-number-at .before .before .before in
     let start = at-what .before .before .before .before .before .before in
-    large-closed _ _ _ _ _ _ _ _ _ _ (start .pre .1 .0) (start .pre .1 .1) (at-what .what .given .1) (at-number-at .number-at .ensures) (start .pre .1 .2) (omega (arith, at-if1 .if1 .left)) _ (at-deeper .deeper .ensures .0) (at-deeper .deeper .ensures .3) (at-d2 .d2 .given .1)
+    large-closed _ _ _ _ _ _ _ _ _ (start .pre .1 .0) (start .pre .1 .1) (at-what .what .given .1) (at-number-at .number-at .ensures) (start .pre .1 .2) (omega (arith, at-if1 .if1 .left)) _ (at-deeper .deeper .ensures .0) (at-deeper .deeper .ensures .3) (at-d2 .d2 .given .1)
 
 content-returns-6 : (t : ℕ) → content-lts.Need-returns-6 (content-calls t) (content-at t) content.Post
 content-returns-6 t c =
@@ -479,7 +479,7 @@ content-returns-6 t c =
     let at-number-at = at-if1 .before in
     let at-what = at-number-at .before .before .before in
     let start = at-what .before .before .before .before .before .before in
-    large-not-open _ _ _ _ _ _ _ _ _ _ (start .pre .1 .0) (start .pre .1 .1) (at-what .what .given .1) (at-number-at .number-at .ensures) (start .pre .1 .2) (omega (arith, at-if1 .if1 .left)) _ (at-deeper .deeper .ensures .0) (at-f2 .f2 .given .1)
+    large-not-open _ _ _ _ _ _ _ _ _ (start .pre .1 .0) (start .pre .1 .1) (at-what .what .given .1) (at-number-at .number-at .ensures) (start .pre .1 .2) (omega (arith, at-if1 .if1 .left)) _ (at-deeper .deeper .ensures .0) (at-f2 .f2 .given .1)
 
 content-returns-7 : (t : ℕ) → content-lts.Need-returns-7 (content-calls t) (content-at t) content.Post
 content-returns-7 t c =
@@ -491,7 +491,7 @@ content-returns-7 t c =
     let at-number-at = at-if1 .before in
     let at-what = at-number-at .before .before .before in
     let start = at-what .before .before .before .before .before .before in
-    large-refused _ _ _ _ _ _ _ _ _ _ (start .pre .1 .0) (start .pre .1 .1) (at-what .what .given .1) (at-number-at .number-at .ensures) (start .pre .1 .2) (omega (arith, at-if1 .if1 .left)) _ (at-deeper .deeper .ensures .0) (at-x .x .given .1) (at-single .single .ensures) (at-f3 .f3 .given .1)
+    large-refused _ _ _ _ _ _ _ _ _ (start .pre .1 .0) (start .pre .1 .1) (at-what .what .given .1) (at-number-at .number-at .ensures) (start .pre .1 .2) (omega (arith, at-if1 .if1 .left)) _ (at-deeper .deeper .ensures .0) (at-x .x .given .1) (at-single .single .ensures) (at-f3 .f3 .given .1)
 
 content-returns-8 : (t : ℕ) → content-lts.Need-returns-8 (content-calls t) (content-at t) content.Post
 content-returns-8 t c =
@@ -504,7 +504,7 @@ content-returns-8 t c =
     let at-number-at = at-if1 .before in
     let at-what = at-number-at .before .before .before in
     let start = at-what .before .before .before .before .before .before in
-    large-sealed _ _ _ _ _ _ _ _ _ _ (start .pre .1 .0) (start .pre .1 .1) (at-what .what .given .1) (at-number-at .number-at .ensures) (start .pre .1 .2) (omega (arith, at-if1 .if1 .left)) _ (at-deeper .deeper .ensures .0) (at-x .x .given .1) (at-single .single .ensures) (at-d3 .d3 .given .1) refl refl (at-sealed2 .sealed2 .ensures)
+    large-sealed _ _ _ _ _ _ _ _ _ (start .pre .1 .0) (start .pre .1 .1) (at-what .what .given .1) (at-number-at .number-at .ensures) (start .pre .1 .2) (omega (arith, at-if1 .if1 .left)) _ (at-deeper .deeper .ensures .0) (at-x .x .given .1) (at-single .single .ensures) (at-d3 .d3 .given .1) refl refl (at-sealed2 .sealed2 .ensures)
 
 -- ---- elements: a vector's elements, or what an object holds
 
@@ -513,8 +513,8 @@ elements-calls t = (number-at-reads.Asked, number-at-reads.Learnt, numbers-reads
 
 abbrev elements-Inv-loop : elements-lts.InvT-loop
 elements-Inv-loop rows members sizes alignments values out₀ base depth row count at kind size d₀ place₀ left₀ out d place left =
-    RunLeft values base (sizeOf (typeTable rows members) row) (λ k. writeRow rows members depth row) (count * sizeOf (typeTable rows members) row) at
-    (E.elements (λ k. writeRow rows members depth row) 0 count (drop (d₀ .index) values) (d₀ .next) (d₀ .handles)) out₀ out d₀ d 0 left place
+    RunLeft values base (sizeOf (typeTable rows members) row) (λ k. writeRow (typeTable rows members) depth row) (count * sizeOf (typeTable rows members) row) at
+    (E.elements (λ k. writeRow (typeTable rows members) depth row) 0 count (drop (d₀ .index) values) (d₀ .next) (d₀ .handles)) out₀ out d₀ d 0 left place
     × (length out ≡ length out₀)
 
 abbrev elements-μ-loop : elements-lts.MeasureT-loop
@@ -562,7 +562,7 @@ envelopes-calls t = (number-at-reads.Asked, number-at-reads.Learnt, refused-read
 
 abbrev envelopes-Inv-loop : envelopes-lts.InvT-loop
 envelopes-Inv-loop rows members sizes alignments values out₀ base depth row count first known d₀ i₀ out d i =
-    EnvelopesLeft rows members values base depth row count out₀ out d₀ d i × (i ≤ count) × (length out ≡ length out₀)
+    EnvelopesLeft (typeTable rows members) values base depth row count out₀ out d₀ d i × (i ≤ count) × (length out ≡ length out₀)
 
 abbrev envelopes-μ-loop : envelopes-lts.MeasureT-loop
 envelopes-μ-loop rows members sizes alignments values out₀ base depth row count first known d₀ i₀ out d i =
@@ -571,14 +571,14 @@ envelopes-μ-loop rows members sizes alignments values out₀ base depth row cou
 envelopes-loop-holds : (t : ℕ) → envelopes-lts.Need-loop-holds (envelopes-calls t) (envelopes-at t) envelopes.Post envelopes-Inv-loop envelopes-μ-loop
 envelopes-loop-holds t c =
     let start = c .before .before .before .before .before .before in
-    (envelopes-start _ _ _ _ _ _ _ _ _ (start .pre .1 .2), search needs, search needs)
+    (envelopes-start _ _ _ _ _ _ _ _ (start .pre .1 .2), search needs, search needs)
 
 envelopes-returns : (t : ℕ) → envelopes-lts.Need-returns (envelopes-calls t) (envelopes-at t) envelopes.Post envelopes-Inv-loop envelopes-μ-loop
 envelopes-returns t c =
     let at-if1 = c .before in
     let at-loop-test = at-if1 .before .before in
     let at-loop = at-loop-test .before in
-    one-ended _ _ _ _ _ _ _ _ _ (at-loop .loop .inv .0) (at-loop-test .loop-test .taken) (at-if1 .if1 .taken) (c .refused .ensures)
+    one-ended _ _ _ _ _ _ _ _ (at-loop .loop .inv .0) (at-loop-test .loop-test .taken) (at-if1 .if1 .taken) (c .refused .ensures)
 
 envelopes-returns-2 : (t : ℕ) → envelopes-lts.Need-returns-2 (envelopes-calls t) (envelopes-at t) envelopes.Post envelopes-Inv-loop envelopes-μ-loop
 envelopes-returns-2 t c =
@@ -587,7 +587,7 @@ envelopes-returns-2 t c =
     let at-if1 = at-value-at .before in
     let at-loop-test = at-if1 .before .before in
     let at-loop = at-loop-test .before in
-    one-wrong _ _ _ _ _ _ _ _ _ (at-loop .loop .inv .0) (at-loop-test .loop-test .taken) (omega (arith, at-if1 .if1 .left)) (at-value-at .value-at .ensures) (at-if2 .if2 .taken) (c .refused2 .ensures)
+    one-wrong _ _ _ _ _ _ _ _ (at-loop .loop .inv .0) (at-loop-test .loop-test .taken) (omega (arith, at-if1 .if1 .left)) (at-value-at .value-at .ensures) (at-if2 .if2 .taken) (c .refused2 .ensures)
 
 envelopes-loop-again : (t : ℕ) → envelopes-lts.Need-loop-again (envelopes-calls t) (envelopes-at t) envelopes.Post envelopes-Inv-loop envelopes-μ-loop
 envelopes-loop-again t c =
@@ -599,7 +599,7 @@ envelopes-loop-again t c =
     let at-if1 = at-value-at .before in
     let at-loop-test = at-if1 .before .before in
     let at-loop = at-loop-test .before in
-    (one-absent _ _ _ _ _ _ _ _ _ (at-loop .loop .inv .0) (at-loop-test .loop-test .taken) (omega (arith, at-if1 .if1 .left)) (at-value-at .value-at .ensures) (at-if2 .if2 .left) (at-took .took .ensures) (at-if3 .if3 .taken) (at-store64 .store64 .ensures), omega (arith, at-loop-test .loop-test .taken), search needs)
+    (one-absent _ _ _ _ _ _ _ _ (at-loop .loop .inv .0) (at-loop-test .loop-test .taken) (omega (arith, at-if1 .if1 .left)) (at-value-at .value-at .ensures) (at-if2 .if2 .left) (at-took .took .ensures) (at-if3 .if3 .taken) (at-store64 .store64 .ensures), omega (arith, at-loop-test .loop-test .taken), search needs)
 
 envelopes-content-requires : (t : ℕ) → envelopes-lts.Need-content-requires (envelopes-calls t) (envelopes-at t) envelopes.Post envelopes-Inv-loop envelopes-μ-loop
 envelopes-content-requires t c κs =
@@ -613,7 +613,7 @@ envelopes-content-requires t c κs =
     let at-number-at2 = at-loop .before in
     let at-number-at = at-number-at2 .before in
     let start = at-number-at .before .before .before .before .before in
-    let m = table-members (start .pre .1 .0) refl (at-number-at .number-at .ensures) (at-number-at2 .number-at2 .ensures) (start .pre .1 .1) in let a = content-asks _ _ _ _ _ _ _ _ _ (at-loop .loop .inv .0) (at-loop-test .loop-test .taken) (omega (arith, at-if1 .if1 .left)) (at-value-at .value-at .ensures) (at-if2 .if2 .left) (at-took .took .ensures) in (omega (arith, start .pre .0), (start .pre .1 .0, ordinal-fits m _ (at-ordinal-of .ordinal-of .result) (ordinal-content m _ (at-ordinal-of .ordinal-of .result) (at-ordinal-of .ordinal-of .ensures)), a .0, a .1))
+    let m = table-members (start .pre .1 .0) refl (at-number-at .number-at .ensures) (at-number-at2 .number-at2 .ensures) (start .pre .1 .1) in let a = content-asks _ _ _ _ _ _ _ _ (at-loop .loop .inv .0) (at-loop-test .loop-test .taken) (omega (arith, at-if1 .if1 .left)) (at-value-at .value-at .ensures) (at-if2 .if2 .left) (at-took .took .ensures) in (omega (arith, start .pre .0), (start .pre .1 .0, ordinal-fits m _ (at-ordinal-of .ordinal-of .result) (ordinal-content m _ (at-ordinal-of .ordinal-of .result) (at-ordinal-of .ordinal-of .ensures)), a .0, a .1))
 
 envelopes-loop-again-2 : (t : ℕ) → envelopes-lts.Need-loop-again-2 (envelopes-calls t) (envelopes-at t) envelopes.Post envelopes-Inv-loop envelopes-μ-loop
 envelopes-loop-again-2 t c =
@@ -630,7 +630,7 @@ envelopes-loop-again-2 t c =
     let at-number-at2 = at-loop .before in
     let at-number-at = at-number-at2 .before in
     let start = at-number-at .before .before .before .before .before in
-    let m = table-members (start .pre .1 .0) refl (at-number-at .number-at .ensures) (at-number-at2 .number-at2 .ensures) (start .pre .1 .1) in (one-present _ _ _ _ _ _ _ _ _ (at-loop .loop .inv .0) (at-loop-test .loop-test .taken) (omega (arith, at-if1 .if1 .left)) (at-value-at .value-at .ensures) (at-if2 .if2 .left) (at-took .took .ensures) (at-ordinal-of .ordinal-of .result) (at-if3 .if3 .left) (at-number-at .number-at .ensures) (at-number-at2 .number-at2 .ensures) (ordinal-content m _ (at-ordinal-of .ordinal-of .result) (at-ordinal-of .ordinal-of .ensures)) (at-content .content .ensures) (at-f .f .given .1), omega (arith, at-loop-test .loop-test .taken), wrote-length (rw (at-f .f .given .1) at (at-content .content .ensures)) ∙ at-loop .loop .inv .2)
+    let m = table-members (start .pre .1 .0) refl (at-number-at .number-at .ensures) (at-number-at2 .number-at2 .ensures) (start .pre .1 .1) in (one-present _ _ _ _ _ _ _ _ (at-loop .loop .inv .0) (at-loop-test .loop-test .taken) (omega (arith, at-if1 .if1 .left)) (at-value-at .value-at .ensures) (at-if2 .if2 .left) (at-took .took .ensures) (at-ordinal-of .ordinal-of .result) (at-if3 .if3 .left) (at-number-at .number-at .ensures) (at-number-at2 .number-at2 .ensures) (ordinal-content m _ (at-ordinal-of .ordinal-of .result) (at-ordinal-of .ordinal-of .ensures)) (at-content .content .ensures) (at-f .f .given .1), omega (arith, at-loop-test .loop-test .taken), wrote-length (rw (at-f .f .given .1) at (at-content .content .ensures)) ∙ at-loop .loop .inv .2)
 
 envelopes-returns-3 : (t : ℕ) → envelopes-lts.Need-returns-3 (envelopes-calls t) (envelopes-at t) envelopes.Post envelopes-Inv-loop envelopes-μ-loop
 envelopes-returns-3 t c =
@@ -647,7 +647,7 @@ envelopes-returns-3 t c =
     let at-number-at2 = at-loop .before in
     let at-number-at = at-number-at2 .before in
     let start = at-number-at .before .before .before .before .before in
-    let m = table-members (start .pre .1 .0) refl (at-number-at .number-at .ensures) (at-number-at2 .number-at2 .ensures) (start .pre .1 .1) in one-refused _ _ _ _ _ _ _ _ _ (at-loop .loop .inv .0) (at-loop-test .loop-test .taken) (omega (arith, at-if1 .if1 .left)) (at-value-at .value-at .ensures) (at-if2 .if2 .left) (at-took .took .ensures) (at-ordinal-of .ordinal-of .result) (at-if3 .if3 .left) (at-number-at .number-at .ensures) (at-number-at2 .number-at2 .ensures) (ordinal-content m _ (at-ordinal-of .ordinal-of .result) (at-ordinal-of .ordinal-of .ensures)) (at-content .content .ensures) (at-f2 .f2 .given .1)
+    let m = table-members (start .pre .1 .0) refl (at-number-at .number-at .ensures) (at-number-at2 .number-at2 .ensures) (start .pre .1 .1) in one-refused _ _ _ _ _ _ _ _ (at-loop .loop .inv .0) (at-loop-test .loop-test .taken) (omega (arith, at-if1 .if1 .left)) (at-value-at .value-at .ensures) (at-if2 .if2 .left) (at-took .took .ensures) (at-ordinal-of .ordinal-of .result) (at-if3 .if3 .left) (at-number-at .number-at .ensures) (at-number-at2 .number-at2 .ensures) (ordinal-content m _ (at-ordinal-of .ordinal-of .result) (at-ordinal-of .ordinal-of .ensures)) (at-content .content .ensures) (at-f2 .f2 .given .1)
 
 envelopes-returns-4 : (t : ℕ) → envelopes-lts.Need-returns-4 (envelopes-calls t) (envelopes-at t) envelopes.Post envelopes-Inv-loop envelopes-μ-loop
 envelopes-returns-4 t c = search (needs, envelopes-end)
@@ -697,7 +697,7 @@ object-returns t c =
     let at-elements = at-number-at .before .before .before .before in
     let at-least = at-elements .before .before in
     let start = at-least .before .before .before .before .before .before in
-    object-written _ (start .args .out .now) _ _ _ _ (writeElements (start .args .rows .now) (start .args .members .now) (start .args .depth) (start .args .row) (start .args .x .count)) (start .pre .1 .1) (at-elements .elements .ensures) (at-least .least .ensures) (ap (λ (size : ℕ). start .args .x .count * size) (row-size (start .pre .1 .0) _ (start .pre .1 .0 .in-use) (at-number-at .number-at .ensures))) (at-put-zeros .put-zeros .ensures) refl
+    object-written _ (start .args .out .now) _ _ _ _ (writeElements (typeTable (start .args .rows .now) (start .args .members .now)) (start .args .depth) (start .args .row) (start .args .x .count)) (start .pre .1 .1) (at-elements .elements .ensures) (at-least .least .ensures) (ap (λ (size : ℕ). start .args .x .count * size) (row-size (start .pre .1 .0) _ (start .pre .1 .0 .in-use) (at-number-at .number-at .ensures))) (at-put-zeros .put-zeros .ensures) refl
 
 -- ---- out_of_line: vector, box, table and union
 
@@ -711,7 +711,7 @@ out-of-line-vector-opened-requires t c κs =
     let at-number-at2 = at-if1 .before .before .before in
     let at-number-at = at-number-at2 .before in
     let start = at-number-at .before .before .before .before .before in
-    let a = vector-record _ _ _ (at-number-at .number-at .ensures) (start .pre .1 .2) (at-if1 .if1 .taken) in (ask-stands a, omega (arith, a .inside, a .free), size-small (start .pre .1 .0) _ (vector-in-use (start .pre .1 .0) (at-number-at .number-at .ensures) (at-number-at2 .number-at2 .ensures) (at-if1 .if1 .taken)) (at-number-at5 .number-at5 .ensures))
+    let a = vector-record _ _ (at-number-at .number-at .ensures) (start .pre .1 .2) (at-if1 .if1 .taken) in (ask-stands a, omega (arith, a .inside, a .free), size-small (start .pre .1 .0) _ (vector-in-use (start .pre .1 .0) (at-number-at .number-at .ensures) (at-number-at2 .number-at2 .ensures) (at-if1 .if1 .taken)) (at-number-at5 .number-at5 .ensures))
 
 out-of-line-sub-object : (t : ℕ) → out-of-line-lts.Need-sub-object (out-of-line-calls t) (out-of-line-at t) out-of-line.Post
 out-of-line-sub-object t c =
@@ -730,7 +730,7 @@ out-of-line-object-requires t c κs =
     let at-number-at2 = at-number-at3 .before in
     let at-number-at = at-number-at2 .before in
     let start = at-number-at .before .before .before .before .before in
-    let l = level-left _ _ (at-vector-opened .vector-opened .ensures .1) (at-x .x .given .1) in let used = vector-in-use (start .pre .1 .0) (at-number-at .number-at .ensures) (at-number-at2 .number-at2 .ensures) (at-if1 .if1 .taken) in let k = vector-claimed _ _ _ _ _ _ _ _ _ _ _ (at-number-at .number-at .ensures) (start .pre .1 .2) (at-if1 .if1 .taken) (at-number-at2 .number-at2 .ensures) (at-number-at3 .number-at3 .ensures) (at-number-at4 .number-at4 .ensures) (start .pre .1 .0) (at-number-at5 .number-at5 .ensures) (at-vector-opened .vector-opened .ensures .0) (at-x .x .given .1) in let few = few-elements (start .pre .1 .0) _ used _ (object-few _ _ k) in (omega (arith, start .pre .0, l, few, row-in-use (start .pre .1 .0) _ used), (ready-at (start .pre .1 .0) _ _ (omega arith) used, k))
+    let l = level-left _ _ (at-vector-opened .vector-opened .ensures .1) (at-x .x .given .1) in let used = vector-in-use (start .pre .1 .0) (at-number-at .number-at .ensures) (at-number-at2 .number-at2 .ensures) (at-if1 .if1 .taken) in let k = vector-claimed _ _ _ _ _ _ _ _ _ _ (at-number-at .number-at .ensures) (start .pre .1 .2) (at-if1 .if1 .taken) (at-number-at2 .number-at2 .ensures) (at-number-at3 .number-at3 .ensures) (at-number-at4 .number-at4 .ensures) (start .pre .1 .0) (at-number-at5 .number-at5 .ensures) (at-vector-opened .vector-opened .ensures .0) (at-x .x .given .1) in let few = few-elements (start .pre .1 .0) _ used _ (object-few _ _ k) in (omega (arith, start .pre .0, l, few, row-in-use (start .pre .1 .0) _ used), (ready-at (start .pre .1 .0) _ _ (omega arith) used, k))
 
 out-of-line-returns : (t : ℕ) → out-of-line-lts.Need-returns (out-of-line-calls t) (out-of-line-at t) out-of-line.Post
 out-of-line-returns t c =
@@ -743,7 +743,7 @@ out-of-line-returns t c =
     let at-number-at2 = at-number-at3 .before in
     let at-number-at = at-number-at2 .before in
     let start = at-number-at .before .before .before .before .before in
-    vector-closed _ _ _ _ _ _ _ _ _ _ _ (at-number-at .number-at .ensures) (start .pre .1 .2) (at-if1 .if1 .taken) (at-number-at2 .number-at2 .ensures) (at-number-at3 .number-at3 .ensures) (at-number-at4 .number-at4 .ensures) (start .pre .1 .0) (at-number-at5 .number-at5 .ensures) (at-vector-opened .vector-opened .ensures .0) (at-d .d .given .1)
+    vector-closed _ _ _ _ _ _ _ _ _ _ (at-number-at .number-at .ensures) (start .pre .1 .2) (at-if1 .if1 .taken) (at-number-at2 .number-at2 .ensures) (at-number-at3 .number-at3 .ensures) (at-number-at4 .number-at4 .ensures) (start .pre .1 .0) (at-number-at5 .number-at5 .ensures) (at-vector-opened .vector-opened .ensures .0) (at-d .d .given .1)
 
 out-of-line-returns-2 : (t : ℕ) → out-of-line-lts.Need-returns-2 (out-of-line-calls t) (out-of-line-at t) out-of-line.Post
 out-of-line-returns-2 t c =
@@ -756,7 +756,7 @@ out-of-line-returns-2 t c =
     let at-number-at2 = at-number-at3 .before in
     let at-number-at = at-number-at2 .before in
     let start = at-number-at .before .before .before .before .before in
-    vector-refused _ _ _ _ _ _ _ _ _ _ _ (at-number-at .number-at .ensures) (start .pre .1 .2) (at-if1 .if1 .taken) (at-number-at2 .number-at2 .ensures) (at-number-at3 .number-at3 .ensures) (at-number-at4 .number-at4 .ensures) (start .pre .1 .0) (at-number-at5 .number-at5 .ensures) (at-vector-opened .vector-opened .ensures .0) (at-f .f .given .1)
+    vector-refused _ _ _ _ _ _ _ _ _ _ (at-number-at .number-at .ensures) (start .pre .1 .2) (at-if1 .if1 .taken) (at-number-at2 .number-at2 .ensures) (at-number-at3 .number-at3 .ensures) (at-number-at4 .number-at4 .ensures) (start .pre .1 .0) (at-number-at5 .number-at5 .ensures) (at-vector-opened .vector-opened .ensures .0) (at-f .f .given .1)
 
 out-of-line-returns-3 : (t : ℕ) → out-of-line-lts.Need-returns-3 (out-of-line-calls t) (out-of-line-at t) out-of-line.Post
 out-of-line-returns-3 t c =
@@ -770,7 +770,7 @@ out-of-line-returns-3 t c =
     let at-number-at2 = at-number-at3 .before in
     let at-number-at = at-number-at2 .before in
     let start = at-number-at .before .before .before .before .before in
-    rw (c .passed-on .ensures) (vector-done _ _ _ _ _ _ _ _ _ _ _ (at-number-at .number-at .ensures) (start .pre .1 .2) (at-if1 .if1 .taken) (at-number-at2 .number-at2 .ensures) (at-number-at3 .number-at3 .ensures) (at-number-at4 .number-at4 .ensures) (start .pre .1 .0) (at-number-at5 .number-at5 .ensures) (at-vector-opened .vector-opened .ensures .0) (at-x .x .given .1) (at-object .object .ensures))
+    rw (c .passed-on .ensures) (vector-done _ _ _ _ _ _ _ _ _ _ (at-number-at .number-at .ensures) (start .pre .1 .2) (at-if1 .if1 .taken) (at-number-at2 .number-at2 .ensures) (at-number-at3 .number-at3 .ensures) (at-number-at4 .number-at4 .ensures) (start .pre .1 .0) (at-number-at5 .number-at5 .ensures) (at-vector-opened .vector-opened .ensures .0) (at-x .x .given .1) (at-object .object .ensures))
 
 out-of-line-box-opened-requires : (t : ℕ) → out-of-line-lts.Need-box-opened-requires (out-of-line-calls t) (out-of-line-at t) out-of-line.Post
 out-of-line-box-opened-requires t c κs =
@@ -779,7 +779,7 @@ out-of-line-box-opened-requires t c κs =
     let at-number-at2 = at-if2 .before .before .before .before in
     let at-number-at = at-number-at2 .before in
     let start = at-number-at .before .before .before .before .before in
-    let a = box-record _ _ _ (at-number-at .number-at .ensures) (start .pre .1 .2) (at-if2 .if2 .taken) in (ask-stands a, omega (arith, a .inside, a .free), size-small (start .pre .1 .0) _ (box-in-use (start .pre .1 .0) (at-number-at .number-at .ensures) (at-number-at2 .number-at2 .ensures) (at-if2 .if2 .taken)) (at-number-at6 .number-at6 .ensures))
+    let a = box-record _ _ (at-number-at .number-at .ensures) (start .pre .1 .2) (at-if2 .if2 .taken) in (ask-stands a, omega (arith, a .inside, a .free), size-small (start .pre .1 .0) _ (box-in-use (start .pre .1 .0) (at-number-at .number-at .ensures) (at-number-at2 .number-at2 .ensures) (at-if2 .if2 .taken)) (at-number-at6 .number-at6 .ensures))
 
 out-of-line-sub-single : (t : ℕ) → out-of-line-lts.Need-sub-single (out-of-line-calls t) (out-of-line-at t) out-of-line.Post
 out-of-line-sub-single t c =
@@ -796,7 +796,7 @@ out-of-line-single-requires t c κs =
     let at-number-at2 = at-if2 .before .before .before .before in
     let at-number-at = at-number-at2 .before in
     let start = at-number-at .before .before .before .before .before in
-    let l = level-left _ _ (at-box-opened .box-opened .ensures .1) (at-x2 .x2 .given .1) in let used = box-in-use (start .pre .1 .0) (at-number-at .number-at .ensures) (at-number-at2 .number-at2 .ensures) (at-if2 .if2 .taken) in let k = box-claimed _ _ _ _ _ _ _ _ _ _ _ (at-number-at .number-at .ensures) (start .pre .1 .2) (at-if2 .if2 .taken) (at-number-at2 .number-at2 .ensures) (start .pre .1 .0) (at-number-at6 .number-at6 .ensures) (at-box-opened .box-opened .ensures .0) (at-x2 .x2 .given .1) in (omega (arith, start .pre .0, l, row-in-use (start .pre .1 .0) _ used), (ready-at (start .pre .1 .0) _ _ (omega arith) used, k))
+    let l = level-left _ _ (at-box-opened .box-opened .ensures .1) (at-x2 .x2 .given .1) in let used = box-in-use (start .pre .1 .0) (at-number-at .number-at .ensures) (at-number-at2 .number-at2 .ensures) (at-if2 .if2 .taken) in let k = box-claimed _ _ _ _ _ _ _ _ _ _ (at-number-at .number-at .ensures) (start .pre .1 .2) (at-if2 .if2 .taken) (at-number-at2 .number-at2 .ensures) (start .pre .1 .0) (at-number-at6 .number-at6 .ensures) (at-box-opened .box-opened .ensures .0) (at-x2 .x2 .given .1) in (omega (arith, start .pre .0, l, row-in-use (start .pre .1 .0) _ used), (ready-at (start .pre .1 .0) _ _ (omega arith) used, k))
 
 out-of-line-returns-4 : (t : ℕ) → out-of-line-lts.Need-returns-4 (out-of-line-calls t) (out-of-line-at t) out-of-line.Post
 out-of-line-returns-4 t c =
@@ -807,7 +807,7 @@ out-of-line-returns-4 t c =
     let at-number-at2 = at-if2 .before .before .before .before in
     let at-number-at = at-number-at2 .before in
     let start = at-number-at .before .before .before .before .before in
-    box-absent _ _ _ _ _ _ _ _ _ _ _ (at-number-at .number-at .ensures) (start .pre .1 .2) (at-if2 .if2 .taken) (at-number-at2 .number-at2 .ensures) (start .pre .1 .0) (at-number-at6 .number-at6 .ensures) (at-box-opened .box-opened .ensures .0) (at-d2 .d2 .given .1)
+    box-absent _ _ _ _ _ _ _ _ _ _ (at-number-at .number-at .ensures) (start .pre .1 .2) (at-if2 .if2 .taken) (at-number-at2 .number-at2 .ensures) (start .pre .1 .0) (at-number-at6 .number-at6 .ensures) (at-box-opened .box-opened .ensures .0) (at-d2 .d2 .given .1)
 
 out-of-line-returns-5 : (t : ℕ) → out-of-line-lts.Need-returns-5 (out-of-line-calls t) (out-of-line-at t) out-of-line.Post
 out-of-line-returns-5 t c =
@@ -818,7 +818,7 @@ out-of-line-returns-5 t c =
     let at-number-at2 = at-if2 .before .before .before .before in
     let at-number-at = at-number-at2 .before in
     let start = at-number-at .before .before .before .before .before in
-    box-refused _ _ _ _ _ _ _ _ _ _ _ (at-number-at .number-at .ensures) (start .pre .1 .2) (at-if2 .if2 .taken) (at-number-at2 .number-at2 .ensures) (start .pre .1 .0) (at-number-at6 .number-at6 .ensures) (at-box-opened .box-opened .ensures .0) (at-f2 .f2 .given .1)
+    box-refused _ _ _ _ _ _ _ _ _ _ (at-number-at .number-at .ensures) (start .pre .1 .2) (at-if2 .if2 .taken) (at-number-at2 .number-at2 .ensures) (start .pre .1 .0) (at-number-at6 .number-at6 .ensures) (at-box-opened .box-opened .ensures .0) (at-f2 .f2 .given .1)
 
 out-of-line-returns-6 : (t : ℕ) → out-of-line-lts.Need-returns-6 (out-of-line-calls t) (out-of-line-at t) out-of-line.Post
 out-of-line-returns-6 t c =
@@ -830,14 +830,14 @@ out-of-line-returns-6 t c =
     let at-number-at2 = at-if2 .before .before .before .before in
     let at-number-at = at-number-at2 .before in
     let start = at-number-at .before .before .before .before .before in
-    rw (c .passed-on2 .ensures) (box-done _ _ _ _ _ _ _ _ _ _ _ (at-number-at .number-at .ensures) (start .pre .1 .2) (at-if2 .if2 .taken) (at-number-at2 .number-at2 .ensures) (start .pre .1 .0) (at-number-at6 .number-at6 .ensures) (at-box-opened .box-opened .ensures .0) (at-x2 .x2 .given .1) (at-single .single .ensures))
+    rw (c .passed-on2 .ensures) (box-done _ _ _ _ _ _ _ _ _ _ (at-number-at .number-at .ensures) (start .pre .1 .2) (at-if2 .if2 .taken) (at-number-at2 .number-at2 .ensures) (start .pre .1 .0) (at-number-at6 .number-at6 .ensures) (at-box-opened .box-opened .ensures .0) (at-x2 .x2 .given .1) (at-single .single .ensures))
 
 out-of-line-table-opened-requires : (t : ℕ) → out-of-line-lts.Need-table-opened-requires (out-of-line-calls t) (out-of-line-at t) out-of-line.Post
 out-of-line-table-opened-requires t c κs =
     let at-if3 = c .before in
     let at-number-at = at-if3 .before .before .before .before .before .before in
     let start = at-number-at .before .before .before .before .before in
-    let a = table-record _ _ _ (at-number-at .number-at .ensures) (start .pre .1 .2) (at-if3 .if3 .taken) in (ask-stands a, omega (arith, a .inside, a .free))
+    let a = table-record _ _ (at-number-at .number-at .ensures) (start .pre .1 .2) (at-if3 .if3 .taken) in (ask-stands a, omega (arith, a .inside, a .free))
 
 out-of-line-sub-least : (t : ℕ) → out-of-line-lts.Need-sub-least (out-of-line-calls t) (out-of-line-at t) out-of-line.Post
 out-of-line-sub-least t c =
@@ -846,7 +846,7 @@ out-of-line-sub-least t c =
     let at-if3 = at-table-opened .before .before in
     let at-number-at = at-if3 .before .before .before .before .before .before in
     let start = at-number-at .before .before .before .before .before in
-    omega (arith, table-claimed _ _ _ _ _ _ _ _ _ _ _ (at-number-at .number-at .ensures) (start .pre .1 .2) (at-if3 .if3 .taken) (at-table-opened .table-opened .ensures .0) (at-x3 .x3 .given .1) .within)
+    omega (arith, table-claimed _ _ _ _ _ _ _ _ _ _ (at-number-at .number-at .ensures) (start .pre .1 .2) (at-if3 .if3 .taken) (start .pre .1 .0) (at-table-opened .table-opened .ensures .0) (at-x3 .x3 .given .1) .within)
 
 out-of-line-sub-envelopes-2 : (t : ℕ) → out-of-line-lts.Need-sub-envelopes-2 (out-of-line-calls t) (out-of-line-at t) out-of-line.Post
 out-of-line-sub-envelopes-2 t c =
@@ -861,7 +861,7 @@ out-of-line-envelopes-requires t c κs =
     let at-if3 = at-table-opened .before .before in
     let at-number-at = at-if3 .before .before .before .before .before .before in
     let start = at-number-at .before .before .before .before .before in
-    let l = level-left _ _ (at-table-opened .table-opened .ensures .1) (at-x3 .x3 .given .1) in let k = table-claimed _ _ _ _ _ _ _ _ _ _ _ (at-number-at .number-at .ensures) (start .pre .1 .2) (at-if3 .if3 .taken) (at-table-opened .table-opened .ensures .0) (at-x3 .x3 .given .1) in (omega (arith, start .pre .0, l, object-few _ _ k), (ready-at (start .pre .1 .0) _ _ (omega arith) (start .pre .1 .0 .in-use), sym (at-number-at .number-at .ensures) ∙ at-if3 .if3 .taken, object-asks _ _ _ k))
+    let l = level-left _ _ (at-table-opened .table-opened .ensures .1) (at-x3 .x3 .given .1) in let k = table-claimed _ _ _ _ _ _ _ _ _ _ (at-number-at .number-at .ensures) (start .pre .1 .2) (at-if3 .if3 .taken) (start .pre .1 .0) (at-table-opened .table-opened .ensures .0) (at-x3 .x3 .given .1) in (omega (arith, start .pre .0, l, object-few _ _ k), (ready-at (start .pre .1 .0) _ _ (omega arith) (start .pre .1 .0 .in-use), sym (at-number-at .number-at .ensures) ∙ at-if3 .if3 .taken, object-asks _ _ _ k))
 
 out-of-line-returns-7 : (t : ℕ) → out-of-line-lts.Need-returns-7 (out-of-line-calls t) (out-of-line-at t) out-of-line.Post
 out-of-line-returns-7 t c =
@@ -870,7 +870,7 @@ out-of-line-returns-7 t c =
     let at-if3 = at-table-opened .before .before in
     let at-number-at = at-if3 .before .before .before .before .before .before in
     let start = at-number-at .before .before .before .before .before in
-    table-closed _ _ _ _ _ _ _ _ _ _ _ (at-number-at .number-at .ensures) (start .pre .1 .2) (at-if3 .if3 .taken) (at-table-opened .table-opened .ensures .0) (at-d3 .d3 .given .1)
+    table-closed _ _ _ _ _ _ _ _ _ _ (at-number-at .number-at .ensures) (start .pre .1 .2) (at-if3 .if3 .taken) (start .pre .1 .0) (at-table-opened .table-opened .ensures .0) (at-d3 .d3 .given .1)
 
 out-of-line-returns-8 : (t : ℕ) → out-of-line-lts.Need-returns-8 (out-of-line-calls t) (out-of-line-at t) out-of-line.Post
 out-of-line-returns-8 t c =
@@ -879,7 +879,7 @@ out-of-line-returns-8 t c =
     let at-if3 = at-table-opened .before .before in
     let at-number-at = at-if3 .before .before .before .before .before .before in
     let start = at-number-at .before .before .before .before .before in
-    table-refused _ _ _ _ _ _ _ _ _ _ _ (at-number-at .number-at .ensures) (start .pre .1 .2) (at-if3 .if3 .taken) (at-table-opened .table-opened .ensures .0) (at-f3 .f3 .given .1)
+    table-refused _ _ _ _ _ _ _ _ _ _ (at-number-at .number-at .ensures) (start .pre .1 .2) (at-if3 .if3 .taken) (start .pre .1 .0) (at-table-opened .table-opened .ensures .0) (at-f3 .f3 .given .1)
 
 out-of-line-returns-9 : (t : ℕ) → out-of-line-lts.Need-returns-9 (out-of-line-calls t) (out-of-line-at t) out-of-line.Post
 out-of-line-returns-9 t c =
@@ -890,7 +890,7 @@ out-of-line-returns-9 t c =
     let at-if3 = at-table-opened .before .before in
     let at-number-at = at-if3 .before .before .before .before .before .before in
     let start = at-number-at .before .before .before .before .before in
-    rw (c .passed-on3 .ensures) (table-done _ _ _ _ _ _ _ _ _ _ _ (at-number-at .number-at .ensures) (start .pre .1 .2) (at-if3 .if3 .taken) (at-table-opened .table-opened .ensures .0) (at-x3 .x3 .given .1) _ (at-least .least .ensures) (at-envelopes .envelopes .ensures) refl)
+    rw (c .passed-on3 .ensures) (table-done _ _ _ _ _ _ _ _ _ _ (at-number-at .number-at .ensures) (start .pre .1 .2) (at-if3 .if3 .taken) (start .pre .1 .0) (at-table-opened .table-opened .ensures .0) (at-x3 .x3 .given .1) _ (at-least .least .ensures) (at-envelopes .envelopes .ensures) refl)
 
 out-of-line-union-member-requires : (t : ℕ) → out-of-line-lts.Need-union-member-requires (out-of-line-calls t) (out-of-line-at t) out-of-line.Post
 out-of-line-union-member-requires t c κs =
@@ -902,7 +902,7 @@ out-of-line-union-member-requires t c κs =
     let at-number-at2 = at-number-at3 .before in
     let at-number-at = at-number-at2 .before in
     let start = at-number-at .before .before .before .before .before in
-    let q = union-else (start .pre .1 .0) (at-number-at .number-at .ensures) (start .pre .1 .1) (at-if1 .if1 .left) (at-if2 .if2 .left) (at-if3 .if3 .left) in let a = union-record _ _ _ (at-number-at .number-at .ensures) (start .pre .1 .2) q in let m = union-members (start .pre .1 .0) (at-number-at .number-at .ensures) (at-number-at2 .number-at2 .ensures) (at-number-at3 .number-at3 .ensures) q in (ask-stands a, omega (arith, a .inside, a .free), omega (arith, at-number-at4 .number-at4 .ensures, m .1), m .0 .exist, members-rise (m .0))
+    let q = union-else (start .pre .1 .0) (at-number-at .number-at .ensures) (start .pre .1 .1) (at-if1 .if1 .left) (at-if2 .if2 .left) (at-if3 .if3 .left) in let a = union-record _ _ (at-number-at .number-at .ensures) (start .pre .1 .2) (start .pre .1 .0 .edition) q in let m = union-members (start .pre .1 .0) (at-number-at .number-at .ensures) (at-number-at2 .number-at2 .ensures) (at-number-at3 .number-at3 .ensures) q in (ask-stands a, omega (arith, a .inside, a .free), omega (arith, at-number-at4 .number-at4 .ensures, m .1), m .0 .exist, members-rise (m .0))
 
 out-of-line-add-content : (t : ℕ) → out-of-line-lts.Need-add-content (out-of-line-calls t) (out-of-line-at t) out-of-line.Post
 out-of-line-add-content t c =
@@ -921,7 +921,7 @@ out-of-line-content-requires t c κs =
     let at-number-at2 = at-number-at3 .before in
     let at-number-at = at-number-at2 .before in
     let start = at-number-at .before .before .before .before .before in
-    let q = union-else (start .pre .1 .0) (at-number-at .number-at .ensures) (start .pre .1 .1) (at-if1 .if1 .left) (at-if2 .if2 .left) (at-if3 .if3 .left) in let m = union-members (start .pre .1 .0) (at-number-at .number-at .ensures) (at-number-at2 .number-at2 .ensures) (at-number-at3 .number-at3 .ensures) q in let a = union-asks _ _ _ _ _ _ (start .args .depth) _ _ _ _ (at-number-at .number-at .ensures) (at-number-at2 .number-at2 .ensures) (at-number-at3 .number-at3 .ensures) (at-number-at4 .number-at4 .ensures) q (start .pre .1 .2) (at-union-member .union-member .ensures .0) (at-what .what .given .1) in (omega (arith, start .pre .0), (start .pre .1 .0, union-fits _ _ _ _ _ (start .args .base) (start .args .depth) _ _ _ _ (at-number-at .number-at .ensures) (at-number-at2 .number-at2 .ensures) (at-number-at3 .number-at3 .ensures) (at-number-at4 .number-at4 .ensures) q (start .pre .1 .2) (at-union-member .union-member .ensures .0) (at-what .what .given .1) (m .0) (at-union-member .union-member .ensures .1), a .0, a .1))
+    let q = union-else (start .pre .1 .0) (at-number-at .number-at .ensures) (start .pre .1 .1) (at-if1 .if1 .left) (at-if2 .if2 .left) (at-if3 .if3 .left) in let m = union-members (start .pre .1 .0) (at-number-at .number-at .ensures) (at-number-at2 .number-at2 .ensures) (at-number-at3 .number-at3 .ensures) q in let a = union-asks _ _ _ _ _ (start .args .depth) _ _ _ _ (at-number-at .number-at .ensures) (at-number-at2 .number-at2 .ensures) (at-number-at3 .number-at3 .ensures) (at-number-at4 .number-at4 .ensures) q (start .pre .1 .0) (start .pre .1 .2) (at-union-member .union-member .ensures .0) (at-what .what .given .1) in (omega (arith, start .pre .0), (start .pre .1 .0, union-fits _ _ _ _ (start .args .base) (start .args .depth) _ _ _ _ (at-number-at .number-at .ensures) (at-number-at2 .number-at2 .ensures) (at-number-at3 .number-at3 .ensures) (at-number-at4 .number-at4 .ensures) q (start .pre .1 .0) (start .pre .1 .2) (at-union-member .union-member .ensures .0) (at-what .what .given .1) (m .0) (at-union-member .union-member .ensures .1), a .0, a .1))
 
 out-of-line-returns-10 : (t : ℕ) → out-of-line-lts.Need-returns-10 (out-of-line-calls t) (out-of-line-at t) out-of-line.Post
 out-of-line-returns-10 t c =
@@ -935,7 +935,7 @@ out-of-line-returns-10 t c =
     let at-number-at2 = at-number-at3 .before in
     let at-number-at = at-number-at2 .before in
     let start = at-number-at .before .before .before .before .before in
-    let q = union-else (start .pre .1 .0) (at-number-at .number-at .ensures) (start .pre .1 .1) (at-if1 .if1 .left) (at-if2 .if2 .left) (at-if3 .if3 .left) in union-none _ _ _ _ _ _ _ _ _ _ _ (at-number-at .number-at .ensures) (at-number-at2 .number-at2 .ensures) (at-number-at3 .number-at3 .ensures) (at-number-at4 .number-at4 .ensures) q (start .pre .1 .2) (at-union-member .union-member .ensures .0) (at-d4 .d4 .given .1)
+    let q = union-else (start .pre .1 .0) (at-number-at .number-at .ensures) (start .pre .1 .1) (at-if1 .if1 .left) (at-if2 .if2 .left) (at-if3 .if3 .left) in union-none _ _ _ _ _ _ _ _ _ _ (at-number-at .number-at .ensures) (at-number-at2 .number-at2 .ensures) (at-number-at3 .number-at3 .ensures) (at-number-at4 .number-at4 .ensures) q (start .pre .1 .0) (start .pre .1 .2) (at-union-member .union-member .ensures .0) (at-d4 .d4 .given .1)
 
 out-of-line-returns-11 : (t : ℕ) → out-of-line-lts.Need-returns-11 (out-of-line-calls t) (out-of-line-at t) out-of-line.Post
 out-of-line-returns-11 t c =
@@ -949,7 +949,7 @@ out-of-line-returns-11 t c =
     let at-number-at2 = at-number-at3 .before in
     let at-number-at = at-number-at2 .before in
     let start = at-number-at .before .before .before .before .before in
-    let q = union-else (start .pre .1 .0) (at-number-at .number-at .ensures) (start .pre .1 .1) (at-if1 .if1 .left) (at-if2 .if2 .left) (at-if3 .if3 .left) in union-bad _ _ _ _ _ _ _ _ _ _ _ (at-number-at .number-at .ensures) (at-number-at2 .number-at2 .ensures) (at-number-at3 .number-at3 .ensures) (at-number-at4 .number-at4 .ensures) q (start .pre .1 .2) (at-union-member .union-member .ensures .0) (at-f4 .f4 .given .1)
+    let q = union-else (start .pre .1 .0) (at-number-at .number-at .ensures) (start .pre .1 .1) (at-if1 .if1 .left) (at-if2 .if2 .left) (at-if3 .if3 .left) in union-bad _ _ _ _ _ _ _ _ _ _ (at-number-at .number-at .ensures) (at-number-at2 .number-at2 .ensures) (at-number-at3 .number-at3 .ensures) (at-number-at4 .number-at4 .ensures) q (start .pre .1 .0) (start .pre .1 .2) (at-union-member .union-member .ensures .0) (at-f4 .f4 .given .1)
 
 out-of-line-returns-12 : (t : ℕ) → out-of-line-lts.Need-returns-12 (out-of-line-calls t) (out-of-line-at t) out-of-line.Post
 out-of-line-returns-12 t c =
@@ -964,7 +964,7 @@ out-of-line-returns-12 t c =
     let at-number-at2 = at-number-at3 .before in
     let at-number-at = at-number-at2 .before in
     let start = at-number-at .before .before .before .before .before in
-    let q = union-else (start .pre .1 .0) (at-number-at .number-at .ensures) (start .pre .1 .1) (at-if1 .if1 .left) (at-if2 .if2 .left) (at-if3 .if3 .left) in rw (c .passed-on4 .ensures) (union-done _ _ _ _ _ _ _ _ _ _ _ (at-number-at .number-at .ensures) (at-number-at2 .number-at2 .ensures) (at-number-at3 .number-at3 .ensures) (at-number-at4 .number-at4 .ensures) q (start .pre .1 .2) (at-union-member .union-member .ensures .0) (at-what .what .given .1) (at-content .content .ensures))
+    let q = union-else (start .pre .1 .0) (at-number-at .number-at .ensures) (start .pre .1 .1) (at-if1 .if1 .left) (at-if2 .if2 .left) (at-if3 .if3 .left) in rw (c .passed-on4 .ensures) (union-done _ _ _ _ _ _ _ _ _ _ (at-number-at .number-at .ensures) (at-number-at2 .number-at2 .ensures) (at-number-at3 .number-at3 .ensures) (at-number-at4 .number-at4 .ensures) q (start .pre .1 .0) (start .pre .1 .2) (at-union-member .union-member .ensures .0) (at-what .what .given .1) (at-content .content .ensures))
 
 -- ---- single: a claimed object of one value
 
@@ -1005,7 +1005,7 @@ single-returns t c =
     let at-value = at-number-at .before .before .before .before in
     let at-least = at-value .before .before in
     let start = at-least .before .before .before .before .before .before in
-    object-written _ (start .args .out .now) _ _ _ _ (writeRow (start .args .rows .now) (start .args .members .now) (start .args .depth) (start .args .row)) (start .pre .1 .1) (at-value .value .ensures) (at-least .least .ensures) (row-size (start .pre .1 .0) _ (start .pre .1 .0 .in-use) (at-number-at .number-at .ensures)) (at-put-zeros .put-zeros .ensures) (c .passed-on .ensures)
+    object-written _ (start .args .out .now) _ _ _ _ (writeRow (typeTable (start .args .rows .now) (start .args .members .now)) (start .args .depth) (start .args .row)) (start .pre .1 .1) (at-value .value .ensures) (at-least .least .ensures) (row-size (start .pre .1 .0) _ (start .pre .1 .0 .in-use) (at-number-at .number-at .ensures)) (at-put-zeros .put-zeros .ensures) (c .passed-on .ensures)
 
 -- ---- value: a value of any kind
 
@@ -1081,7 +1081,7 @@ value-out-of-line-requires t c κs =
     let at-if1 = at-if2 .before in
     let at-number-at = at-if1 .before .before in
     let start = at-number-at .before .before .before .before .before in
-    (omega (arith, start .pre .0), (start .pre .1 .0, outside-left (start .args .rows .now) (start .args .members .now) (start .args .row) (at-number-at .number-at .ensures) (at-if1 .if1 .left) (at-if2 .if2 .left) (at-if3 .if3 .left) (at-if4 .if4 .left) (at-if7 .if7 .left), start .pre .1 .1))
+    (omega (arith, start .pre .0), (start .pre .1 .0, outside-left (typeTable (start .args .rows .now) (start .args .members .now)) (start .args .row) (at-number-at .number-at .ensures) (at-if1 .if1 .left) (at-if2 .if2 .left) (at-if3 .if3 .left) (at-if4 .if4 .left) (at-if7 .if7 .left), start .pre .1 .1))
 
 -- ---- all eight
 
