@@ -24,10 +24,9 @@ use Rattle.nesting.specs.Ready.{Ready}
 use Rattle.reader.specs.declared.Reading.{Reading}
 use Rattle.reader.specs.declared.Reading.the-variants as Both
 use Rattle.walk_leaves.specs.declared.cursor.Cursor.{Cursor}
-use Rattle.walk_leaves.specs.declared.cursor.Stop.{Stop}
 use Rattle.walk_leaves.specs.declared.cursor.Walked.{Walked}
 use Rattle.walk_leaves.specs.declared.cursor.Walked.the-variants.{On, Refused}
-use Rattle.walk_leaves.specs.Doing.{message, faultOf, walkedOf, answer, Did, Ask}
+use Rattle.walk_leaves.specs.Doing.{message, answer, Did, Ask}
 use Rattle.walk_leaves.specs.Parts.{claimAt, DidObjects}
 use Rattle.walk.specs.Walking.{ValueDid}
 use Rattle.reader.specs.Answers.{lengthsOf, readingOf}
@@ -61,7 +60,7 @@ module _ {t : TypeTable} {bytes : List ℕ} {root handles : ℕ} {sizes alignmen
         (claimAt primaryObject root (sizeOf t root) (message t bytes handles) 0 0 0)
     claimed-root values = rw root-size at (claim t values handles (omega arith) (omega arith))
 
-    pub primary-refused : {values : List ℕ} {f : Stop} → r ≡ Refused f → PrimaryDid t bytes root handles values values objects objects′ (Refused f)
+    pub primary-refused : {values : List ℕ} {f : Fault} → r ≡ Refused f → PrimaryDid t bytes root handles values values objects objects′ (Refused f)
     primary-refused {values} e = rw (walk-then (message t bytes handles) root) (did-halt 4 _ (rw e at (claimed-root values)))
 
     module _ {c : Cursor} (e : r ≡ On c) where
@@ -109,13 +108,10 @@ module _ (t : TypeTable) (bytes : List ℕ) (root handles : ℕ) {values values�
   abbrev Ends : Reading → Type 0
   Ends reading = Passed t bytes root handles values values′ objects objects′ reading
 
-  pub refusal-fits : {s : Stop} → r ≡ Refused s → s .number < 4294967296
-  refusal-fits e = (rw e at did) .within
-
-  pub walk-refused : {s : Stop} {f : Fault} → r ≡ Refused s → f ≡ faultOf s → Ends (Both.Refused f)
-  walk-refused {s} {f} e k = record { answers = go (walk here root) (did .says); valued = did .valued; listed = did .listed }
+  pub walk-refused : {f : Fault} → r ≡ Refused f → Ends (Both.Refused f)
+  walk-refused {f} e = record { answers = go (walk here root) (did .says); valued = did .valued; listed = did .listed }
     where
-      go : (d : Decoded) → walkedOf r ≡ answer start d → refused f ≡ lengthsOf (listsOf (finished here d))
+      go : (d : Decoded) → r ≡ answer start d → refused f ≡ lengthsOf (listsOf (finished here d))
       go (went n u vs t) q = absurd (let w : _≡_ {A = ℕ} 0 1 = cc in omega arith)
       go (stopped g vs t) q = let z : f ≡ g = cc in rw z
 
@@ -130,7 +126,7 @@ module _ (t : TypeTable) (bytes : List ℕ) (root handles : ℕ) {values values�
       same true false f g vs t v o = refl
       same false used f g vs t v o = refl
 
-      go : (d : Decoded) → walkedOf r ≡ answer start d → afterWalk end (length bytes) handles ≡ lengthsOf (listsOf (finished here d))
+      go : (d : Decoded) → r ≡ answer start d → afterWalk end (length bytes) handles ≡ lengthsOf (listsOf (finished here d))
       go (went n u vs t) q =
           let z : n ≡ end .next = cc in
           let y : u ≡ end .handles = cc in

@@ -20,7 +20,6 @@ use walk_leaves::claims::claim;
 use walk_leaves::cursor::Cursor;
 use walk_leaves::cursor::Walked;
 use walk_leaves::cursor::fault_at;
-use walk_leaves::cursor::fault_of;
 
 // Before the walk: 1, 2, 3, 4.
 fn before(verdict: Soundness, rows: &[u32], root: u32, length: usize, handles: u64) -> Verdict
@@ -137,7 +136,7 @@ pub fn pass(
         values,
         objects,
     ) {
-        Walked::Refused(s) => Reading::Refused(fault_of(s)),
+        Walked::Refused(f) => Reading::Refused(f),
         Walked::On(end) => after(end, bytes.len(), held),
     }
 }

@@ -5,6 +5,7 @@ use mathlib.Core.Path.{_≡_, refl}
 use Prim.Native.Nat.{ℕ, _-_, _≤_, _<_}
 use native.Mathlib.Omega.{arith}
 use lib.ListN.{length, getD}
+use Rattle.rules.specs.declared.Fault.{Fault}
 use Rattle.rules.specs.TypeTable.{TypeTable, rowCount, known}
 use Rattle.rules.specs.Sizes.{sizeOf}
 use Rattle.rules.specs.Envelope.{contentOfEightBytes}
@@ -15,7 +16,6 @@ use Rattle.nesting.specs.Ordinals.{OrdinalFits}
 use Rattle.nesting.specs.Ready.{Ready}
 use Rattle.nesting.proofs.Readiness.{row-in-use, row-size, size-small, ready-at}
 use Rattle.walk_leaves.specs.declared.cursor.Cursor.{Cursor}
-use Rattle.walk_leaves.specs.declared.cursor.Stop.{Stop}
 use Rattle.walk_leaves.specs.declared.cursor.Walked.{Walked}
 use Rattle.walk_leaves.specs.declared.cursor.Walked.the-variants.{On, Refused}
 use Rattle.walk_records.specs.declared.records.Opening.{Opening}
@@ -62,7 +62,7 @@ module _ (t : TypeTable) (bytes : List ℕ) (handles depth row at : ℕ) (v o o�
   pub content-closed : {d : Cursor} → opened ≡ Closed d → ContentDid t bytes handles depth v v o o′ at c row what (On d)
   content-closed e = rw is (opening e)
 
-  pub content-not-open : {f : Stop} → opened ≡ Opened.Refused f → ContentDid t bytes handles depth v v o o′ at c row what (Refused f)
+  pub content-not-open : {f : Fault} → opened ≡ Opened.Refused f → ContentDid t bytes handles depth v v o o′ at c row what (Refused f)
   content-not-open e = rw is (opening e)
 
   module _ {x : Opening} (e : opened ≡ Open x) where
@@ -86,7 +86,7 @@ module _ (t : TypeTable) (bytes : List ℕ) (handles depth row at : ℕ) (v o o�
           rw is (opening e .1 v″ o″ r
           (did-then size (λ n u. sealedAt (message t bytes handles) size at (c .next) (c .handles) n u) q (s t v″ o″ handles (l .0) (l .1)) (omega (arith, l .2, sized what ready fits is kept))))
 
-      pub content-refused : {w : Walked} {f : Stop} → ValueDid t bytes handles (depth - 1) v v″ o′ o″ (x .start) (x .cursor) payload w → w ≡ Refused f
+      pub content-refused : {w : Walked} {f : Fault} → ValueDid t bytes handles (depth - 1) v v″ o′ o″ (x .start) (x .cursor) payload w → w ≡ Refused f
           → ContentDid t bytes handles depth v v″ o o″ at c row what (Refused f)
       content-refused {w} {f} did h =
           let q = rw h at did in

@@ -8,6 +8,7 @@ use native.Mathlib.Omega.{arith}
 use borrow.Author.Tests.{eqb-true}
 use lib.Dec.{eqb}
 use lib.ListN.{length, getD}
+use Rattle.rules.specs.declared.Fault.{Fault}
 use Rattle.rules.specs.declared.Layout.{Layout}
 use Rattle.rules.specs.Bytes.{roundUp}
 use Rattle.rules.specs.TypeTable.{TypeTable, rowCount, kindAt, aAt, bAt, rowOf, memberRows}
@@ -23,7 +24,6 @@ use Rattle.nesting.proofs.Left.{fieldsLeft}
 use Rattle.nesting.proofs.Readiness.{row-size, ready-at}
 use Rattle.nesting.proofs.Starts.{startOf, struct-fields, members-below, start-size}
 use Rattle.walk_leaves.specs.declared.cursor.Cursor.{Cursor}
-use Rattle.walk_leaves.specs.declared.cursor.Stop.{Stop}
 use Rattle.walk_leaves.specs.declared.cursor.Walked.{Walked}
 use Rattle.walk_leaves.specs.declared.cursor.Walked.the-variants.{On, Refused}
 use Rattle.walk_leaves.specs.Doing.{message, Did, Ask}
@@ -119,7 +119,7 @@ module _ {t : TypeTable} {sizes alignments : List ℕ} {depth row : ℕ} (ready 
         (start-size t row (ready .sound) (ready .in-use) parts at ∙ sym (fields-size (layoutOf t) fields)))
 
     module _ {x : Walked} (did : ValueDid t bytes handles depth v v′ o o′ at c part x) where
-      pub member-refused : {f : Stop} → x ≡ Refused f → ValueDid t bytes handles depth v v′ o o′ at c row (Refused f)
+      pub member-refused : {f : Fault} → x ≡ Refused f → ValueDid t bytes handles depth v v′ o o′ at c row (Refused f)
       member-refused same = item-refused start (rw same at did)
 
       pub member-filled : {d : Cursor} → x ≡ On d → {size whole : ℕ} → size ≡ getD sizes part 0 → whole ≡ getD sizes row 0

@@ -5,6 +5,7 @@ use mathlib.Core.Path.{_≡_, refl, sym, _∙_}
 use Prim.Native.Nat.{ℕ, _+_, _-_, _*_, _≤_, _<_}
 use native.Mathlib.Omega.{arith}
 use lib.ListN.{length, getD}
+use Rattle.rules.specs.declared.Fault.{Fault}
 use Rattle.rules.specs.TypeTable.{TypeTable, eightByteEnvelopes, rowCount, kindAt, aAt, bAt, cAt, contentOf}
 use Rattle.rules.specs.Sizes.{sizeOf}
 use Rattle.rules.specs.Decode as D
@@ -18,7 +19,6 @@ use Rattle.nesting.proofs.ByKind.{size-vector, size-box, size-table, size-union
 use Rattle.nesting.proofs.Readiness.{row-size, few-elements}
 use Rattle.nesting.proofs.Members.{vector-in-use, box-in-use}
 use Rattle.walk_leaves.specs.declared.cursor.Cursor.{Cursor}
-use Rattle.walk_leaves.specs.declared.cursor.Stop.{Stop}
 use Rattle.walk_leaves.specs.declared.cursor.Walked.{Walked}
 use Rattle.walk_leaves.specs.declared.cursor.Walked.the-variants.{On, Refused}
 use Rattle.walk_records.specs.declared.records.Opening.{Opening}
@@ -79,7 +79,7 @@ module _ (t : TypeTable) (bytes : List ℕ) (handles depth row at : ℕ) (v v′
     pub vector-closed : {d : Cursor} → r ≡ Closed d → ValueDid t bytes handles depth v v′ o o′ at c row (On d)
     vector-closed z = vector-row z
 
-    pub vector-refused : {f : Stop} → r ≡ Opened.Refused f → ValueDid t bytes handles depth v v′ o o′ at c row (Refused f)
+    pub vector-refused : {f : Fault} → r ≡ Opened.Refused f → ValueDid t bytes handles depth v v′ o o′ at c row (Refused f)
     vector-refused z = vector-row z
 
     pub vector-asks : {x : Opening} → r ≡ Open x → Ask (length bytes) handles (x .count * sizeOf t a) (x .start) (x .cursor)
@@ -108,7 +108,7 @@ module _ (t : TypeTable) (bytes : List ℕ) (handles depth row at : ℕ) (v v′
     pub box-absent : {d : Cursor} → r ≡ Closed d → ValueDid t bytes handles depth v v′ o o′ at c row (On d)
     box-absent z = box-row z
 
-    pub box-refused : {f : Stop} → r ≡ Opened.Refused f → ValueDid t bytes handles depth v v′ o o′ at c row (Refused f)
+    pub box-refused : {f : Fault} → r ≡ Opened.Refused f → ValueDid t bytes handles depth v v′ o o′ at c row (Refused f)
     box-refused z = box-row z
 
     pub box-asks : {x : Opening} → r ≡ Open x → Ask (length bytes) handles (sizeOf t a) (x .start) (x .cursor)
@@ -134,7 +134,7 @@ module _ (t : TypeTable) (bytes : List ℕ) (handles depth row at : ℕ) (v v′
     pub table-closed : {d : Cursor} → r ≡ Closed d → ValueDid t bytes handles depth v v′ o o′ at c row (On d)
     table-closed z = table-row z
 
-    pub table-refused : {f : Stop} → r ≡ Opened.Refused f → ValueDid t bytes handles depth v v′ o o′ at c row (Refused f)
+    pub table-refused : {f : Fault} → r ≡ Opened.Refused f → ValueDid t bytes handles depth v v′ o o′ at c row (Refused f)
     table-refused z = table-row z
 
     pub table-asks : {x : Opening} → r ≡ Open x → Ask (length bytes) handles (x .count * 8) (x .start) (x .cursor)
@@ -164,7 +164,7 @@ module _ (t : TypeTable) (bytes : List ℕ) (handles depth row at : ℕ) (v v′
   pub union-none : {d : Cursor} → r ≡ None d → ValueDid t bytes handles depth v v′ o o at c row (On d)
   union-none z = union-row z
 
-  pub union-bad : {f : Stop} → r ≡ Bad f → ValueDid t bytes handles depth v v′ o o at c row (Refused f)
+  pub union-bad : {f : Fault} → r ≡ Bad f → ValueDid t bytes handles depth v v′ o o at c row (Refused f)
   union-bad z = union-row z
 
   pub union-asks : {what : Ordinal} {d : Cursor} → r ≡ Some what d → Ask (length bytes) handles 16 at c → Ask (length bytes) handles 7 (at + 8) d

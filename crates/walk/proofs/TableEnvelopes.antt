@@ -7,7 +7,9 @@ use native.Mathlib.Omega.{arith}
 use borrow.Author.Tests.{eq-eqb, ne-eqb}
 use lib.ListN.{length, getD}
 use lib.Seq.{length-sets}
-use Rattle.rules.specs.Refusals.{lastEnvelopeZero}
+use Rattle.rules.specs.declared.Fault.{Fault}
+use Rattle.rules.specs.declared.Place.the-variants.{Byte}
+use Rattle.rules.specs.Refusals.{fault, lastEnvelopeZero}
 use Rattle.rules.specs.Bytes.{word}
 use Rattle.rules.specs.TypeTable.{TypeTable, aAt, bAt}
 use Rattle.rules.specs.Decode as D
@@ -17,10 +19,9 @@ use Rattle.nesting.specs.declared.Ordinal.{Ordinal}
 use Rattle.nesting.specs.Ordinals.{ordinalIs, halved}
 use Rattle.nesting.proofs.Members.{MembersRise, ordinal-content}
 use Rattle.walk_leaves.specs.declared.cursor.Cursor.{Cursor}
-use Rattle.walk_leaves.specs.declared.cursor.Stop.{Stop}
 use Rattle.walk_leaves.specs.declared.cursor.Walked.{Walked}
 use Rattle.walk_leaves.specs.declared.cursor.Walked.the-variants.{On, Refused}
-use Rattle.walk_leaves.specs.Doing.{stop, gaveOne, Did, Ask}
+use Rattle.walk_leaves.specs.Doing.{gaveOne, Did, Ask}
 use Rattle.walk.specs.Walking.{here, envelopeAt, ContentDid, EnvelopesDid}
 use Rattle.walk_leaves.proofs.Steps.{did-stop, did-one}
 use Rattle.walk_records.proofs.Giving.{Gave, did-gave, ask-gave}
@@ -61,12 +62,12 @@ module _ (t : TypeTable) (bytes : List ℕ) (handles depth row count at : ℕ) (
           rw (← s, ← p) (run-on r (omega arith) did)
 
       module _ {loaded : ℕ} (l : loaded ≡ word bytes (at + i * 8) 8) where
-        pub last-absent : {w : Walked} → loaded ≡ 0 → i + 1 ≡ count → w ≡ Refused (stop lastEnvelopeZero (at + i * 8))
+        pub last-absent : {w : Walked} → loaded ≡ 0 → i + 1 ≡ count → w ≡ Refused (fault lastEnvelopeZero (Byte (at + i * 8)))
             → EnvelopesDid t bytes handles depth v v′ o o′ at c row count w
         unfolding D.optionalEnvelope
         last-absent z q y =
             let a = envelope-asks in
-            rw y (run-refused r (omega arith) (rw (zero-word bytes (at + i * 8) 8 (a .inside) (sym l ∙ z), eq-eqb (i + 1) count q) (did-stop (omega arith))))
+            rw y (run-refused r (omega arith) (rw (zero-word bytes (at + i * 8) 8 (a .inside) (sym l ∙ z), eq-eqb (i + 1) count q) did-stop))
 
         pub one-absent : {v″ : List ℕ} {e : Cursor} → loaded ≡ 0 → (i + 1 ≡ count → ⊥) → Gave v′ v″ d e 0
             → EnvelopesLeft t bytes handles depth row count at v v″ o o′ c e (i + 1)
@@ -87,7 +88,7 @@ module _ (t : TypeTable) (bytes : List ℕ) (handles depth row count at : ℕ) (
           pub one-present : {f : Cursor} → w ≡ On f → EnvelopesLeft t bytes handles depth row count at v v″ o o″ c f (i + 1)
           one-present y = turn (rw y at present)
 
-          pub one-refused : {f : Stop} → w ≡ Refused f → EnvelopesDid t bytes handles depth v v″ o o″ at c row count (Refused f)
+          pub one-refused : {f : Fault} → w ≡ Refused f → EnvelopesDid t bytes handles depth v v″ o o″ at c row count (Refused f)
           one-refused y = run-refused r (omega arith) (rw y at present)
 
           -- The lent lists are as long as they were.

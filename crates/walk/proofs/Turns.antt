@@ -7,6 +7,7 @@ use Prim.Native.Nat.{ℕ, _+_, _-_, _≤_, _<_}
 use native.Mathlib.Omega.{arith}
 use lib.ListN.{length, getD, set}
 use lib.Seq.{length-sets}
+use Rattle.rules.specs.declared.Fault.{Fault}
 use Rattle.rules.specs.Refusals.{accepted}
 use Rattle.rules.specs.TypeTable.{TypeTable}
 use Rattle.rules.specs.Sizes.{layoutOf, sizeOf}
@@ -26,7 +27,6 @@ use Rattle.nesting.proofs.Steps.{Known, Stepped, fuel}
 use Rattle.nesting.proofs.Going.{Going, Bounded, Opens}
 use Rattle.nesting.proofs.Turns as Nested
 use Rattle.walk_leaves.specs.declared.cursor.Cursor.{Cursor}
-use Rattle.walk_leaves.specs.declared.cursor.Stop.{Stop}
 use Rattle.walk_leaves.specs.declared.cursor.Walked.{Walked}
 use Rattle.walk_leaves.specs.declared.cursor.Walked.the-variants.{On, Refused}
 use Rattle.walk_leaves.specs.Doing.{message, valuesOf, Did, Ask}
@@ -99,7 +99,7 @@ module _ {t : TypeTable} {sizes alignments bytes : List ℕ} {handles depth top 
           let turn = Nested.turn-filled ready short (is q) (w .going) (ValueLeft t bytes handles depth top at v o c v′ o′ d′) (rw on at left) in
           (record { lengths = w .lengths; going = turn .0 }, turn .1)
 
-      pub turn-fill-refused : {next : ℕ} → step ≡ Fill next → {x : Walked} {f : Stop} → DidNeither bytes 0 place d x (λ m. D.fill m (next - place)) → x ≡ Refused f
+      pub turn-fill-refused : {next : ℕ} → step ≡ Fill next → {x : Walked} {f : Fault} → DidNeither bytes 0 place d x (λ m. D.fill m (next - place)) → x ≡ Refused f
           → ValueDid t bytes handles depth v v′ o o′ at c top (Refused f)
       turn-fill-refused {next} q did same = item-refused (Nested.turn-fill ready short (is q) (w .going) .2) (filled next did same)
 
@@ -129,7 +129,7 @@ module _ {t : TypeTable} {sizes alignments bytes : List ℕ} {handles depth top 
             turn .1,
           )
 
-      pub turn-call-refused : {part : ℕ} → step ≡ Call part → {v″ o″ : List ℕ} {x : Walked} {f : Stop} → ValueDid t bytes handles depth v′ v″ o′ o″ place d part x → x ≡ Refused f
+      pub turn-call-refused : {part : ℕ} → step ≡ Call part → {v″ o″ : List ℕ} {x : Walked} {f : Fault} → ValueDid t bytes handles depth v′ v″ o′ o″ place d part x → x ≡ Refused f
           → ValueDid t bytes handles depth v v″ o o″ at c top (Refused f)
       turn-call-refused q did same = item-refused (Nested.turn-call ready short (is q) (w .going) .2) (rw same at did)
 

@@ -8,6 +8,7 @@ use Prim.Native.Nat.{ℕ, _+_, _-_, _*_, _≤_, _<_}
 use native.Mathlib.Omega.{arith}
 use borrow.Author.Tests.{ne-eqb}
 use lib.ListN.{length, getD}
+use Rattle.rules.specs.declared.Fault.{Fault}
 use Rattle.rules.specs.Bytes.{word}
 use Rattle.rules.specs.TypeTable.{TypeTable}
 use Rattle.rules.specs.Sizes.{Field, field}
@@ -19,7 +20,6 @@ use Rattle.nesting.specs.Ready.{someTable, widthAllowed}
 use Rattle.nesting.proofs.Items.{itemsOf, sizeOfItems, fields-size}
 use Rattle.nesting.proofs.Plans.{parts-next, parts-none, size-least}
 use Rattle.walk_leaves.specs.declared.cursor.Cursor.{Cursor}
-use Rattle.walk_leaves.specs.declared.cursor.Stop.{Stop}
 use Rattle.walk_leaves.specs.declared.cursor.Walked.{Walked}
 use Rattle.walk_leaves.specs.declared.cursor.Walked.the-variants.{On, Refused}
 use Rattle.walk_leaves.specs.Doing.{message, gaveOne, Ask}
@@ -93,14 +93,14 @@ module _ {bytes : List ℕ} {whole : List Field} {at : ℕ} {v : List ℕ} {c : 
     part-asks a = let x = p .work someTable [] 64 a .asks in (omega (arith, x .inside, x .short), omega (arith, x .small))
 
     module _ {v″ : List ℕ} {r : Walked} (q : DidValues bytes v′ v″ 1 place d r (λ m. widthAt m width)) where
-      pub part-refused : {f : Stop} → r ≡ Refused f → DidAsked bytes v v″ (partsSize whole) at c (Refused f) (partsAt whole)
+      pub part-refused : {f : Fault} → r ≡ Refused f → DidAsked bytes v v″ (partsSize whole) at c (Refused f) (partsAt whole)
       unfolding itemsOf
       part-refused z t objects handles a =
           let x = p .work t objects handles a in
           item-refused x ((rw z at q) t objects handles (x .asks .free) (x .asks .held))
 
       module _ {e : Cursor} (z : r ≡ On e) {size : ℕ} (s : size ≡ widthSize width) {filled : Walked} (n : DidNeither bytes 0 (place + size) e filled (λ m. D.fill m fill)) where
-        pub fill-refused : {f : Stop} → filled ≡ Refused f → DidAsked bytes v v″ (partsSize whole) at c (Refused f) (partsAt whole)
+        pub fill-refused : {f : Fault} → filled ≡ Refused f → DidAsked bytes v v″ (partsSize whole) at c (Refused f) (partsAt whole)
         unfolding itemsOf
         fill-refused w t objects handles a =
             let x = p .work t objects handles a in
@@ -137,7 +137,7 @@ module _ {bytes : List ℕ} {parts : List Field} {size count at : ℕ} {v : List
   values-end h t objects handles a = run-end (p .run t objects handles a) h
 
   module _ (h : 0 < left) (s : partsSize parts ≡ size) {v″ : List ℕ} {r : Walked} (q : DidAsked bytes v′ v″ (partsSize parts) place d r (partsAt parts)) where
-    pub value-refused : {f : Stop} → r ≡ Refused f → DidAsked bytes v v″ (count * size) at c (Refused f) (λ m. D.elements size (λ i. partsAt parts m) 0 count)
+    pub value-refused : {f : Fault} → r ≡ Refused f → DidAsked bytes v v″ (count * size) at c (Refused f) (λ m. D.elements size (λ i. partsAt parts m) 0 count)
     value-refused z t objects handles a =
         let x = p .run t objects handles a in
         run-stopped x h ((rw s at q) t objects handles (run-asks x h)) z

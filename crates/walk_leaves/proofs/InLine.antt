@@ -13,7 +13,8 @@ use borrow.Author.Tests.{le-leb, lt-leb, ne-eqb, eqb-true}
 use lib.Dec.{eqb}
 use lib.ListN.{length, getD, set, take, drop}
 use lib.Seq.{sets, length-sets, sets-eq, take-all, take-suc, take-suc-set, drop-cons, drop-drop}
-use Rattle.rules.specs.Refusals.{boolNotZeroOrOne, presenceWrong, requiredAbsent, tooFewHandles}
+use Rattle.rules.specs.declared.Place.the-variants.{Byte}
+use Rattle.rules.specs.Refusals.{fault, boolNotZeroOrOne, presenceWrong, requiredAbsent, tooFewHandles}
 use Rattle.rules.specs.Bytes.{word, ones32}
 use Rattle.rules.specs.Trace.{objectList}
 use Rattle.rules.specs.Decode as D
@@ -26,7 +27,7 @@ use Rattle.nesting.proofs.ByKind.{width-positive}
 use Rattle.walk_leaves.specs.declared.cursor.Cursor.{Cursor}
 use Rattle.walk_leaves.specs.declared.cursor.Walked.{Walked}
 use Rattle.walk_leaves.specs.declared.cursor.Walked.the-variants.{On, Refused}
-use Rattle.walk_leaves.specs.Doing.{message, stop, gaveOne}
+use Rattle.walk_leaves.specs.Doing.{message, gaveOne}
 use Rattle.walk_leaves.specs.Parts.{boolAt, handleAt, numbersAt, wordsFrom, DidValues, DidHandles}
 use Rattle.walk_leaves.proofs.Steps.{cursor-same, did-stop, did-one}
 
@@ -58,9 +59,9 @@ next-counted i end h k = record { fits = omega arith }
 -- ---- bools
 
 module _ (bytes values : List ℕ) (at : ℕ) (c : Cursor) {x : ℕ} (read : x ≡ getD bytes at 0) where
-  pub bool-refused : {r : Walked} → 1 < x → r ≡ Refused (stop boolNotZeroOrOne at) → DidValues bytes values values 1 at c r boolAt
+  pub bool-refused : {r : Walked} → 1 < x → r ≡ Refused (fault boolNotZeroOrOne (Byte at)) → DidValues bytes values values 1 at c r boolAt
   unfolding boolAt D.recordThen readNumber
-  bool-refused h e t objects handles free held = simp (e, word-byte, ← read, lt-leb _ _ h) (did-stop (omega arith))
+  bool-refused h e t objects handles free held = simp (e, word-byte, ← read, lt-leb _ _ h) did-stop
 
   pub bool-given : {values′ : List ℕ} {d : Cursor} → x ≤ 1 → values′ ≡ set values (c .values) x → d ≡ gaveOne c → DidValues bytes values values′ 1 at c (On d) boolAt
   unfolding boolAt D.recordThen readNumber
@@ -81,10 +82,10 @@ module _ (bytes values : List ℕ) (held optional at : ℕ) (c : Cursor) {x : �
   unfolding handleAt D.recordThen readPresence presence
   handle-absent p q e f k t objects free = simp (e, f, ← read, p, q) (did-one 0 (omega arith) free k)
 
-  pub handle-required : {r : Walked} → x ≡ 0 → (optional ≡ 1 → ⊥) → r ≡ Refused (stop requiredAbsent at)
+  pub handle-required : {r : Walked} → x ≡ 0 → (optional ≡ 1 → ⊥) → r ≡ Refused (fault requiredAbsent (Byte at))
       → DidHandles bytes values values held 1 at c r (handleAt (eqb optional 1))
   unfolding handleAt D.recordThen readPresence presence
-  handle-required p q e t objects free = simp (e, ← read, p, ne-eqb _ _ q) (did-stop (omega arith))
+  handle-required p q e t objects free = simp (e, ← read, p, ne-eqb _ _ q) did-stop
 
   pub handle-taken : {values′ : List ℕ} {d : Cursor} → x ≡ ones32 → values′ ≡ set values (c .values) 1 → d ≡ gaveOne c → c .handles < held
       → DidHandles bytes values values′ held 1 at c (On (record { next = d .next; handles = c .handles + 1; values = d .values; objects = d .objects })) (handleAt (eqb optional 1))
@@ -97,16 +98,16 @@ module _ (bytes values : List ℕ) (held optional at : ℕ) (c : Cursor) {x : �
     rises = (omega arith, omega arith);
   })
 
-  pub handle-missing : {values′ : List ℕ} {r : Walked} → x ≡ ones32 → values′ ≡ set values (c .values) 1 → held ≤ c .handles → r ≡ Refused (stop tooFewHandles at)
+  pub handle-missing : {values′ : List ℕ} {r : Walked} → x ≡ ones32 → values′ ≡ set values (c .values) 1 → held ≤ c .handles → r ≡ Refused (fault tooFewHandles (Byte at))
       → DidHandles bytes values values′ held 1 at c r (handleAt (eqb optional 1))
   unfolding handleAt D.recordThen readPresence presence D.takeHandles objectList
   handle-missing p e k f t objects free =
-      simp (e, f, ← read, p, lt-leb (c .handles + 1) held (omega arith)) (record { says = refl; valued = refl; listed = refl; within = omega arith; rises = tt })
+      simp (e, f, ← read, p, lt-leb (c .handles + 1) held (omega arith)) (record { says = refl; valued = refl; listed = refl; within = tt; rises = tt })
 
-  pub handle-wrong : {r : Walked} → (x ≡ 0 → ⊥) → (x ≡ ones32 → ⊥) → r ≡ Refused (stop presenceWrong at)
+  pub handle-wrong : {r : Walked} → (x ≡ 0 → ⊥) → (x ≡ ones32 → ⊥) → r ≡ Refused (fault presenceWrong (Byte at))
       → DidHandles bytes values values held 1 at c r (handleAt (eqb optional 1))
   unfolding handleAt D.recordThen readPresence presence
-  handle-wrong p q e t objects free = simp (e, ← read, ne-eqb _ _ p, ne-eqb _ _ q) (did-stop (omega arith))
+  handle-wrong p q e t objects free = simp (e, ← read, ne-eqb _ _ p, ne-eqb _ _ q) did-stop
 
 -- ---- runs of numbers
 

@@ -2,11 +2,11 @@
 -- Assumes nothing.
 use mathlib.Core.List.{List, []}
 use Prim.Native.Nat.{ℕ, _+_, _-_, _≤_}
+use Rattle.rules.specs.declared.Fault.{Fault}
 use Rattle.rules.specs.Decode as D
 use Rattle.rules.specs.Decode.{Decoded, went}
 use Rattle.walk_leaves.specs.declared.cursor.Cursor.{Cursor}
 use Rattle.walk_leaves.specs.declared.cursor.Walked.the-variants.{On, Refused}
-use Rattle.walk_leaves.specs.declared.cursor.Stop.{Stop}
 use Rattle.walk_leaves.specs.Doing.{load, Did, Leads}
 use Rattle.walk_leaves.proofs.Steps.{did-nothing, did-then, did-halt}
 
@@ -18,7 +18,7 @@ module _ {total handles grow rest : ℕ} {v v′ o o′ : List ℕ} {c d : Curso
   leads-on left k l p z = λ w x r q. l w x r (did-then rest k p q z)
 
   -- A part was refused, and so is the whole.
-  pub leads-halt : {part : Decoded} {g : ℕ} {v″ o″ : List ℕ} {f : Stop} (k : ℕ → ℕ → Decoded) → Leads total handles grow rest v v′ o o′ c d whole (D.andThen part k)
+  pub leads-halt : {part : Decoded} {g : ℕ} {v″ o″ : List ℕ} {f : Fault} (k : ℕ → ℕ → Decoded) → Leads total handles grow rest v v′ o o′ c d whole (D.andThen part k)
       → Did total handles g v′ v″ o′ o″ d (Refused f) part → Did total handles grow v v″ o o″ c (Refused f) whole
   leads-halt {v″ = v″} {o″} {f} k l p = l v″ o″ (Refused f) (did-halt rest k p)
 

@@ -9,14 +9,14 @@ use native.Mathlib.Omega.{arith}
 use borrow.Author.Tests.{le-leb, lt-leb, eq-eqb, ne-eqb}
 use lib.ListN.{length, set, take, drop}
 use lib.Seq.{sets}
-use Rattle.rules.specs.Refusals.{objectDoesNotFit, fillNotZero}
+use Rattle.rules.specs.declared.Place.the-variants.{Byte}
+use Rattle.rules.specs.Refusals.{fault, objectDoesNotFit, fillNotZero}
 use Rattle.rules.specs.Bytes.{part, leadingZeros, roundUp, padded}
 use Rattle.rules.specs.Trace.{objectList}
 use Rattle.rules.specs.Decode as D
 use Rattle.walk_leaves.specs.declared.cursor.Cursor.{Cursor}
 use Rattle.walk_leaves.specs.declared.cursor.Walked.{Walked}
 use Rattle.walk_leaves.specs.declared.cursor.Walked.the-variants.{On, Refused}
-use Rattle.walk_leaves.specs.Doing.{stop}
 use Rattle.walk_leaves.specs.Parts.{claimAt, DidObjects, DidNeither}
 use Rattle.walk_leaves.proofs.Steps.{cursor-same, did-stop, did-nothing}
 
@@ -35,9 +35,9 @@ unfolding part
 all-zeros bytes at count e h = omega (arith, zeros-most (drop at bytes) count)
 
 module _ (bytes : List ℕ) (at count : ℕ) (c : Cursor) {zeros : ℕ} (e : zeros ≡ leadingZeros (part bytes at count)) where
-  pub fill-refused : {r : Walked} → zeros < count → r ≡ Refused (stop fillNotZero (at + zeros)) → DidNeither bytes 0 at c r (λ m. D.fill m count)
+  pub fill-refused : {r : Walked} → zeros < count → r ≡ Refused (fault fillNotZero (Byte (at + zeros))) → DidNeither bytes 0 at c r (λ m. D.fill m count)
   unfolding D.fill
-  fill-refused h f t values objects handles free held = simp (f, ← e, ne-eqb zeros count (λ q. omega arith)) (did-stop (omega arith))
+  fill-refused h f t values objects handles free held = simp (f, ← e, ne-eqb zeros count (λ q. omega arith)) did-stop
 
   pub fill-passed : count ≤ zeros → DidNeither bytes 0 at c (On c) (λ m. D.fill m count)
   unfolding D.fill
@@ -58,17 +58,17 @@ abbrev pub whole : ℕ → ℕ
 whole size = (size + 7) / 8 * 8
 
 module _ (bytes objects : List ℕ) (kind row size : ℕ) (c : Cursor) where
-  pub claim-unfit : {r : Walked} → length bytes - c .next < whole size → r ≡ Refused (stop objectDoesNotFit (c .next))
+  pub claim-unfit : {r : Walked} → length bytes - c .next < whole size → r ≡ Refused (fault objectDoesNotFit (Byte (c .next)))
       → DidObjects bytes objects objects 4 0 c r (claimAt kind row size)
   unfolding claimAt padded roundUp
-  claim-unfit h e t values handles free held = simp (e, lt-leb (c .next + whole size) (length bytes) (omega arith)) (did-stop (omega arith))
+  claim-unfit h e t values handles free held = simp (e, lt-leb (c .next + whole size) (length bytes) (omega arith)) did-stop
 
   module _ (fits : whole size ≤ length bytes - c .next) {zeros : ℕ} (e : zeros ≡ leadingZeros (part bytes (c .next + size) (whole size - size))) where
-    pub claim-unfilled : {r : Walked} → zeros < whole size - size → r ≡ Refused (stop fillNotZero (c .next + size + zeros))
+    pub claim-unfilled : {r : Walked} → zeros < whole size - size → r ≡ Refused (fault fillNotZero (Byte (c .next + size + zeros)))
         → DidObjects bytes objects objects 4 0 c r (claimAt kind row size)
     unfolding claimAt padded roundUp
     claim-unfilled h f t values handles free held =
-        simp (f, ← e, le-leb (c .next + whole size) (length bytes) (omega arith), ne-eqb zeros (whole size - size) (λ q. omega arith)) (did-stop (omega arith))
+        simp (f, ← e, le-leb (c .next + whole size) (length bytes) (omega arith), ne-eqb zeros (whole size - size) (λ q. omega arith)) did-stop
 
     pub claim-given : {objects′ : List ℕ} → whole size - size ≤ zeros → objects′ ≡ sets objects (c .objects) (kind ∷ row ∷ c .next ∷ size ∷ [])
         → DidObjects bytes objects objects′ 4 0 c (On (record { next = c .next + whole size; handles = c .handles; values = c .values; objects = c .objects + 4 })) (claimAt kind row size)

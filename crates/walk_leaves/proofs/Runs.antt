@@ -5,10 +5,10 @@ use mathlib.Core.Path.{_≡_, refl, ap}
 use Prim.Native.Nat.{ℕ, zero, suc, _+_, _-_, _*_, _≤_, _<_}
 use native.Mathlib.Nat.{suc-mul}
 use native.Mathlib.Omega.{arith}
+use Rattle.rules.specs.declared.Fault.{Fault}
 use Rattle.rules.specs.Decode as D
 use Rattle.rules.specs.Decode.{Decoded, Decoder, went}
 use Rattle.walk_leaves.specs.declared.cursor.Cursor.{Cursor}
-use Rattle.walk_leaves.specs.declared.cursor.Stop.{Stop}
 use Rattle.walk_leaves.specs.declared.cursor.Walked.{Walked}
 use Rattle.walk_leaves.specs.declared.cursor.Walked.the-variants.{On, Refused}
 use Rattle.walk_leaves.specs.Doing.{Did, Ask, Leads}
@@ -74,7 +74,7 @@ module _ {total handles size : ℕ} {parts : ℕ → Decoder} where
           leads = leads-on ((left - 1) * size) (λ n u. D.elements size parts (i + 1) (left - 1) (place + size) n u) (unrolled h) q (omega (arith, w .2));
         }
 
-    pub run-refused : {v″ o″ : List ℕ} {f : Stop} → 0 < left → Did total handles size v′ v″ o′ o″ d (Refused f) (parts i place (d .next) (d .handles)) → Did total handles grow v v″ o o″ c (Refused f) whole
+    pub run-refused : {v″ o″ : List ℕ} {f : Fault} → 0 < left → Did total handles size v′ v″ o′ o″ d (Refused f) (parts i place (d .next) (d .handles)) → Did total handles grow v v″ o o″ c (Refused f) whole
     run-refused h q = leads-halt (λ n u. D.elements size parts (i + 1) (left - 1) (place + size) n u) (unrolled h) q
 
     pub run-end : left ≤ 0 → Did total handles grow v v′ o o′ c (On d) whole
@@ -94,5 +94,5 @@ module _ {total handles size : ℕ} {part : Decoder} {grow : ℕ} {whole : Decod
   pub run-next : {step : ℕ} {e : Cursor} → size ≡ step → w ≡ On e → RunLeft total handles size (λ k. part) grow whole v v″ o o″ c e 0 (left - 1) (place + step)
   run-next s z = rw (← s) (run-renumbered 0 (run-on r h (rw z at q)))
 
-  pub run-stopped : {f : Stop} → w ≡ Refused f → Did total handles grow v v″ o o″ c (Refused f) whole
+  pub run-stopped : {f : Fault} → w ≡ Refused f → Did total handles grow v v″ o o″ c (Refused f) whole
   run-stopped z = run-refused r h (rw z at q)

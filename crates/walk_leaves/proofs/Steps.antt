@@ -2,21 +2,20 @@
 -- together. Assumes nothing.
 use mathlib.Core.Path.{_≡_, refl, sym, ap, _∙_}
 use mathlib.Core.List.{List, [], _∷_, _++_}
-use Prim.Native.Nat.{ℕ, _+_, _-_, _≤_, _<_}
+use Prim.Native.Nat.{ℕ, _+_, _-_, _≤_}
 use native.Mathlib.Nat.{add-zero}
 use native.Mathlib.Omega.{arith}
 use lib.ListN.{length, set, length-append}
 use lib.Seq.{sets}
-use Rattle.rules.specs.Refusals.{accepted, refused}
+use Rattle.rules.specs.declared.Fault.{Fault}
 use Rattle.rules.specs.Trace.{Event, claimed, presentHandle, unknownContent, objectList}
 use Rattle.rules.specs.Decode as D
 use Rattle.rules.specs.Decode.{Decoded, went, stopped, traceOf}
 use Rattle.words.proofs.Stores.{sets-append}
 use Rattle.walk_leaves.specs.declared.cursor.Cursor.{Cursor}
-use Rattle.walk_leaves.specs.declared.cursor.Stop.{Stop}
 use Rattle.walk_leaves.specs.declared.cursor.Walked.{Walked}
 use Rattle.walk_leaves.specs.declared.cursor.Walked.the-variants.{On, Refused}
-use Rattle.walk_leaves.specs.Doing.{valuesOf, faultOf, answer, cursorAt, load, Within, Rises, Did}
+use Rattle.walk_leaves.specs.Doing.{valuesOf, answer, load, Within, Rises, Did}
 
 objects-append : (s t : List Event) → objectList (s ++ t) ≡ objectList s ++ objectList t
 unfolding objectList
@@ -30,7 +29,8 @@ abbrev pub moved : Cursor → (next used : ℕ) (values : List ℕ) (trace : Lis
 moved c next used values trace =
     record { next = next; handles = used; values = c .values + length values; objects = c .objects + length (objectList trace) }
 
-pub cursor-same : (n h : ℕ) {v w o p : ℕ} → v ≡ w → o ≡ p → accepted (cursorAt n h v o) ≡ accepted (cursorAt n h w p)
+pub cursor-same : (n h : ℕ) {v w o p : ℕ} → v ≡ w → o ≡ p
+    → On (record { next = n; handles = h; values = v; objects = o }) ≡ On (record { next = n; handles = h; values = w; objects = p })
 cursor-same n h e f = rw (e, f)
 
 answer-after : (c : Cursor) (n u : ℕ) (vs : List ℕ) (t : List Event) (d : Decoded) → answer (moved c n u vs t) d ≡ answer c (D.after vs t d)
@@ -49,18 +49,17 @@ trace-after vs t (stopped f ws s) = objects-append t s
 
 within-more : (total handles m n : ℕ) (r : Walked) → m ≤ n → Within total handles m r → Within total handles n r
 within-more total handles m n (On e) h w = (w .0, w .1, omega arith)
-within-more total handles m n (Refused s) h w = w
+within-more total handles m n (Refused f) h w = tt
 
 rises-before : (c e : Cursor) (r : Walked) → c .next ≤ e .next → c .handles ≤ e .handles → Rises e r → Rises c r
 rises-before c e (On f) h k w = (omega (arith, w .0), omega (arith, w .1))
-rises-before c e (Refused s) h k w = tt
+rises-before c e (Refused f) h k w = tt
 
 -- ---- parts that are done at once
 
-pub did-stop : {total handles g : ℕ} {v o : List ℕ} {c : Cursor} {s : Stop} → s .number < 4294967296
-    → Did total handles g v v o o c (Refused s) (stopped (faultOf s) [] [])
+pub did-stop : {total handles g : ℕ} {v o : List ℕ} {c : Cursor} {f : Fault} → Did total handles g v v o o c (Refused f) (stopped f [] [])
 unfolding objectList
-did-stop h = record { says = refl; valued = refl; listed = refl; within = h; rises = tt }
+did-stop = record { says = refl; valued = refl; listed = refl; within = tt; rises = tt }
 
 pub did-nothing : {total handles g : ℕ} {v o : List ℕ} {c : Cursor} → c .next ≤ total → c .handles ≤ handles → Did total handles g v v o o c (On c) (went (c .next) (c .handles) [] [])
 unfolding objectList
@@ -122,21 +121,21 @@ pub did-then : {total handles g h : ℕ} (m : ℕ) {v v′ v″ o o′ o″ : Li
     → load total e + h ≤ load total c + m → Did total handles m v v″ o o″ c r (D.andThen d k)
 did-then {total} {handles} {g} {h} m {v} {v′} {v″} {o} {o′} {o″} {c} {e} {r} {d} k p q z = go d (p .says) (p .valued) (p .listed)
   where
-    go : (d : Decoded) → accepted e ≡ answer c d → v′ ≡ sets v (c .values) (valuesOf d) → o′ ≡ sets o (c .objects) (objectList (traceOf d)) → Did total handles m v v″ o o″ c r (D.andThen d k)
+    go : (d : Decoded) → On e ≡ answer c d → v′ ≡ sets v (c .values) (valuesOf d) → o′ ≡ sets o (c .objects) (objectList (traceOf d)) → Did total handles m v v″ o o″ c r (D.andThen d k)
     go (went n u vs t) a x y =
         let b : e ≡ moved c n u vs t = cc in
         did-after m v o c n u vs t (rw (b, x, y) at q) (rw b at z) ((rw b at (p .rises)) .0) ((rw b at (p .rises)) .1)
     go (stopped f vs t) a x y = absurd (let w : _≡_ {A = ℕ} 0 1 = cc in omega arith)
 
 -- A part that was stopped, whatever was to follow.
-pub did-halt : {total handles g : ℕ} (h : ℕ) {v v′ o o′ : List ℕ} {c : Cursor} {s : Stop} {d : Decoded} (k : ℕ → ℕ → Decoded)
-    → Did total handles g v v′ o o′ c (Refused s) d → Did total handles h v v′ o o′ c (Refused s) (D.andThen d k)
-did-halt {total} {handles} {g} h {v} {v′} {o} {o′} {c} {s} {d} k p = go d (p .says) (p .valued) (p .listed)
+pub did-halt : {total handles g : ℕ} (h : ℕ) {v v′ o o′ : List ℕ} {c : Cursor} {f : Fault} {d : Decoded} (k : ℕ → ℕ → Decoded)
+    → Did total handles g v v′ o o′ c (Refused f) d → Did total handles h v v′ o o′ c (Refused f) (D.andThen d k)
+did-halt {total} {handles} {g} h {v} {v′} {o} {o′} {c} {f} {d} k p = go d (p .says) (p .valued) (p .listed)
   where
-    go : (d : Decoded) → refused (faultOf s) ≡ answer c d → v′ ≡ sets v (c .values) (valuesOf d) → o′ ≡ sets o (c .objects) (objectList (traceOf d))
-        → Did total handles h v v′ o o′ c (Refused s) (D.andThen d k)
+    go : (d : Decoded) → Refused f ≡ answer c d → v′ ≡ sets v (c .values) (valuesOf d) → o′ ≡ sets o (c .objects) (objectList (traceOf d))
+        → Did total handles h v v′ o o′ c (Refused f) (D.andThen d k)
     go (went n u vs t) a x y = absurd (let w : _≡_ {A = ℕ} 0 1 = cc in omega arith)
-    go (stopped g vs t) a x y = record { says = a; valued = x; listed = y; within = p .within; rises = tt }
+    go (stopped g vs t) a x y = record { says = a; valued = x; listed = y; within = tt; rises = tt }
 
 -- What a part that went on leaves.
 pub went-on : {total handles g : ℕ} {v v′ o o′ : List ℕ} {c e : Cursor} {x : Walked} {d : Decoded} → Did total handles g v v′ o o′ c x d → x ≡ On e

@@ -5,6 +5,7 @@ use mathlib.Core.Path.{_≡_, refl, sym, _∙_}
 use Prim.Native.Nat.{ℕ, zero, suc, _+_, _≤_}
 use native.Mathlib.Nat.{add-assoc, add-zero}
 use native.Mathlib.Omega.{arith}
+use Rattle.rules.specs.declared.Fault.{Fault}
 use Rattle.rules.specs.declared.Layout.{Layout}
 use Rattle.rules.specs.Bytes.{part, leadingZeros}
 use Rattle.rules.specs.Sizes.{Field, field}
@@ -14,7 +15,6 @@ use Rattle.rules.specs.Walk as W
 use Rattle.nesting.proofs.Items.{Item, value, gap, itemsOf, copies, sizeOfItem, sizeOfItems, into-size}
 use Rattle.walk_leaves.specs.declared.cursor.Cursor.{Cursor}
 use Rattle.walk_leaves.specs.declared.cursor.Walked.the-variants.{On, Refused}
-use Rattle.walk_leaves.specs.declared.cursor.Stop.{Stop}
 use Rattle.walk_leaves.specs.Doing.{Did, Ask, Leads}
 use Rattle.walk_leaves.proofs.Steps.{went-on}
 use Rattle.walk_leaves.proofs.Results.{then-then, then-same, after-none}
@@ -89,7 +89,7 @@ module _ {m : Message} {layouts : ℕ → Layout} {inner : ℕ → Decoder} {tot
           leads = leads-on (sizeOfItems layouts is) (λ n u. run m layouts inner is (place + sizeOfItem layouts i) n u) item-leads q (omega (arith, x .2));
         }
 
-    pub item-refused : {v″ o″ : List ℕ} {f : Stop} {g : ℕ} → Did total handles g v′ v″ o′ o″ d (Refused f) (runItem m layouts inner i place (d .next) (d .handles)) → Did total handles grow v v″ o o″ c (Refused f) whole
+    pub item-refused : {v″ o″ : List ℕ} {f : Fault} {g : ℕ} → Did total handles g v′ v″ o′ o″ d (Refused f) (runItem m layouts inner i place (d .next) (d .handles)) → Did total handles grow v v″ o o″ c (Refused f) whole
     item-refused q = leads-halt (λ n u. run m layouts inner is (place + sizeOfItem layouts i) n u) item-leads q
 
   -- The value that is next, taken apart.

@@ -2,17 +2,13 @@
 -- Assumes nothing.
 use mathlib.Core.Path.{_≡_}
 use mathlib.Core.List.{List}
-use Prim.Native.Nat.{ℕ, _+_, _-_, _≤_, _<_}
+use Prim.Native.Nat.{ℕ, _+_, _-_, _≤_}
 use lib.ListN.{length}
 use lib.Seq.{sets}
-use Rattle.rules.specs.declared.Place.the-variants.{Byte}
-use Rattle.rules.specs.declared.Fault.{Fault}
-use Rattle.rules.specs.Refusals.{fault, Answer, accepted, refused}
 use Rattle.rules.specs.TypeTable.{TypeTable}
 use Rattle.rules.specs.Trace.{objectList}
 use Rattle.rules.specs.Decode.{Message, Decoded, went, stopped, traceOf}
 use Rattle.walk_leaves.specs.declared.cursor.Cursor.{Cursor}
-use Rattle.walk_leaves.specs.declared.cursor.Stop.{Stop}
 use Rattle.walk_leaves.specs.declared.cursor.Walked.{Walked}
 use Rattle.walk_leaves.specs.declared.cursor.Walked.the-variants.{On, Refused}
 
@@ -23,23 +19,11 @@ abbrev pub valuesOf : Decoded → List ℕ
 valuesOf (went next used values trace) = values
 valuesOf (stopped f values trace) = values
 
--- A refusal inside the walk, and the rules' fault that it stands for.
-abbrev pub stop : (number at : ℕ) → Stop
-stop number at = record { number = number; at = at }
-
-abbrev pub faultOf : Stop → Fault
-faultOf s = fault (s .number) (Byte (s .at))
-
--- What the code's answer means in the rules,
-abbrev pub walkedOf : Walked → Answer Cursor
-walkedOf (On c) = accepted c
-walkedOf (Refused s) = refused (faultOf s)
-
--- and what it is to mean for a result of the rules, from a cursor on.
-abbrev pub answer : Cursor → Decoded → Answer Cursor
+-- The code's answer for a result of the rules, from a cursor on.
+abbrev pub answer : Cursor → Decoded → Walked
 answer c (went next used values trace) =
-    accepted (record { next = next; handles = used; values = c .values + length values; objects = c .objects + length (objectList trace) })
-answer c (stopped f values trace) = refused f
+    On (record { next = next; handles = used; values = c .values + length values; objects = c .objects + length (objectList trace) })
+answer c (stopped f values trace) = Refused f
 
 -- A cursor of four numbers.
 abbrev pub cursorAt : (next handles given listed : ℕ) → Cursor
@@ -53,19 +37,19 @@ gaveOne c = record { next = c .next; handles = c .handles; values = c .values + 
 abbrev pub load : (total : ℕ) → Cursor → ℕ
 load total c = c .values + c .objects + (total - c .next)
 
--- Where a walk went on it stays within its bounds; where it was refused, the refusal has a number of 32 bits.
+-- Where a walk went on it stays within its bounds.
 abbrev pub Within : (total handles most : ℕ) → Walked → Type 0
 Within total handles most (On c) = (c .next ≤ total) × (c .handles ≤ handles) × (load total c ≤ most)
-Within total handles most (Refused s) = s .number < 4294967296
+Within total handles most (Refused f) = Unit {0}
 
 -- A cursor never goes back.
 abbrev pub Rises : Cursor → Walked → Type 0
 Rises c (On e) = (c .next ≤ e .next) × (c .handles ≤ e .handles)
-Rises c (Refused s) = Unit {0}
+Rises c (Refused f) = Unit {0}
 
 -- What a part of the walk did: its answer, and the lent lists before and after it; at most `grow` numbers more.
 pub record Did (total handles grow : ℕ) (values values′ objects objects′ : List ℕ) (c : Cursor) (r : Walked) (d : Decoded) : Type 0 where
-  pub says : walkedOf r ≡ answer c d
+  pub says : r ≡ answer c d
   pub valued : values′ ≡ sets values (c .values) (valuesOf d)
   pub listed : objects′ ≡ sets objects (c .objects) (objectList (traceOf d))
   pub within : Within total handles (load total c + grow) r

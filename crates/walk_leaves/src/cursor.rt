@@ -3,7 +3,7 @@ ghost use mathlib.Core.Path.{_≡_};
 ghost use Prim.Native.Nat.{_+_, _<_};
 ghost use lib.ListN.{set};
 ghost use Rattle.rules.specs.Refusals.{fault};
-ghost use Rattle.walk_leaves.specs.Doing.{gaveOne, stop, faultOf};
+ghost use Rattle.walk_leaves.specs.Doing.{gaveOne};
 use rules::Fault;
 use rules::Place;
 
@@ -15,16 +15,10 @@ pub struct Cursor {
     pub objects: usize,
 }
 
-// A refusal inside the walk, whose place is a byte: whole words, since an answer is loaded in the pieces that it was stored in.
-pub struct Stop {
-    pub number: u64,
-    pub at: usize,
-}
-
 // A part of the walk went on, or was refused.
 pub enum Walked {
     On(Cursor),
-    Refused(Stop),
+    Refused(Fault),
 }
 
 // A refusal at a byte of the message.
@@ -37,25 +31,10 @@ pub fn fault_at(number: u32, at: usize) -> Fault
     }
 }
 
-// The same inside the walk.
-pub fn stop_at(number: u64, at: usize) -> Stop
-    ensures { λ r. ⌜ r ≡ stop number at ⌝ }
+pub fn refused(number: u32, at: usize) -> Walked
+    ensures { λ r. ⌜ r ≡ Walked.Refused (fault number (Place.Byte at)) ⌝ }
 {
-    Stop { number, at }
-}
-
-pub fn refused(number: u64, at: usize) -> Walked
-    ensures { λ r. ⌜ r ≡ Walked.Refused (stop number at) ⌝ }
-{
-    Walked::Refused(stop_at(number, at))
-}
-
-// What a walk that stopped is refused with.
-pub fn fault_of(s: Stop) -> Fault
-    requires { ⌜ s .number < 4294967296 ⌝ }
-    ensures { λ r. ⌜ r ≡ faultOf s ⌝ }
-{
-    fault_at(s.number as u32, s.at)
+    Walked::Refused(fault_at(number, at))
 }
 
 // A callee's answer, made anew from its parts: copied whole, it would be loaded in other pieces than it was stored in, which

@@ -7,6 +7,7 @@ use Prim.Native.Nat.{ℕ, _+_}
 use native.Mathlib.Omega.{arith}
 use borrow.Author.Tests.{ne-eqb}
 use lib.ListN.{length, set}
+use Rattle.rules.specs.declared.Fault.{Fault}
 use Rattle.rules.specs.declared.Place.the-variants.{Byte}
 use Rattle.rules.specs.Refusals.{fault, presenceWrong}
 use Rattle.rules.specs.Bytes.{word, ones64}
@@ -18,10 +19,9 @@ use Rattle.rules.specs.Decode.{Message, got, wrong}
 use Rattle.rules.specs.Records.{presence, readPresence}
 use Rattle.rules.specs.Walk as W
 use Rattle.walk_leaves.specs.declared.cursor.Cursor.{Cursor}
-use Rattle.walk_leaves.specs.declared.cursor.Stop.{Stop}
 use Rattle.walk_records.specs.declared.records.Opened.{Opened}
 use Rattle.walk_records.specs.declared.records.Opened.the-variants.{Closed, Refused}
-use Rattle.walk_leaves.specs.Doing.{message, stop, gaveOne, Ask}
+use Rattle.walk_leaves.specs.Doing.{message, gaveOne, Ask}
 use Rattle.walk_records.specs.Opening.{boxAt}
 use Rattle.walk_records.specs.Contracts.{DeeperOpens, BoxOpens}
 use Rattle.walk_leaves.proofs.Steps.{did-stop, did-one}
@@ -46,9 +46,9 @@ module _ (bytes : List ℕ) (handles depth : ℕ) (values objects : List ℕ) (a
   box-closed ask h e g t sized =
       rw (e, g, record-got 8 _ _ at (c .next) (c .handles) (box-absent (message t bytes handles) at said h)) (did-one 0 (omega arith) (ask .free) (ask .held))
 
-  pub box-refused : {f : Stop} → (says ≡ 0 → ⊥) → (says ≡ ones64 → ⊥) → f ≡ stop presenceWrong at
+  pub box-refused : {f : Fault} → (says ≡ 0 → ⊥) → (says ≡ ones64 → ⊥) → f ≡ fault presenceWrong (Byte at)
       → BoxOpens bytes handles depth values values objects objects at c element size (Refused f)
-  box-refused h k e t sized = rw (e, record-wrong 8 _ _ at (c .next) (c .handles) (box-wrong (message t bytes handles) at said h k)) (did-stop (omega arith))
+  box-refused h k e t sized = rw (e, record-wrong 8 _ _ at (c .next) (c .handles) (box-wrong (message t bytes handles) at said h k)) did-stop
 
   box-whole : (t : TypeTable) → sizeOf t element ≡ size → says ≡ ones64
       → boxAt (message t bytes handles) depth element at (c .next) (c .handles)

@@ -10,7 +10,7 @@ use lib.Dec.{leb}
 use lib.ListN.{length}
 use Rattle.rules.specs.declared.Fault.{Fault}
 use Rattle.rules.specs.declared.Place.the-variants.{Byte}
-use Rattle.rules.specs.Refusals.{fault, objectDoesNotFit, fillNotZero, accepted}
+use Rattle.rules.specs.Refusals.{fault, objectDoesNotFit, fillNotZero}
 use Rattle.rules.specs.Bytes.{part, leadingZeros, padded}
 use Rattle.rules.specs.Trace.{claimed, objectList}
 use Rattle.rules.specs.Decode as D
@@ -56,7 +56,7 @@ claim-on {c = c} {e = e} m kind row size at p =
     go (leb (c .next + padded size) (length (m .bytes))) (D.isZero m (c .next + size) (padded size - size)) _ _ refl (p .says)
   where
     go : (fits zero : Bool) (g h : Fault) → leb (c .next + padded size) (length (m .bytes)) ≡ fits
-        → accepted e ≡ answer c (D.require fits g (D.require zero h (went (c .next + padded size) (c .handles) [] (claimed kind row (c .next) size ∷ []))))
+        → On e ≡ answer c (D.require fits g (D.require zero h (went (c .next + padded size) (c .handles) [] (claimed kind row (c .next) size ∷ []))))
         → (e .next ≡ c .next + padded size) × (e .handles ≡ c .handles) × (e .values ≡ c .values) × (e .objects ≡ c .objects + 4) × (c .next + padded size ≤ length (m .bytes))
     go true true g h f q =
         let v : e .values ≡ c .values + 0 = cc in

@@ -12,7 +12,9 @@ use mir.Val.{Fits}
 use borrow.Author.Tests.{ne-eqb, le-leb, lt-leb, leb-true}
 use lib.Dec.{leb, eqb}
 use lib.ListN.{length, set}
-use Rattle.rules.specs.Refusals.{presenceWrong, requiredAbsent, absentNotZero, countOverLargest}
+use Rattle.rules.specs.declared.Fault.{Fault}
+use Rattle.rules.specs.declared.Place.the-variants.{Byte}
+use Rattle.rules.specs.Refusals.{fault, presenceWrong, requiredAbsent, absentNotZero, countOverLargest}
 use Rattle.rules.specs.Bytes.{word, ones64}
 use Rattle.rules.specs.TypeTable.{TypeTable}
 use Rattle.rules.specs.Sizes.{sizeOf}
@@ -23,13 +25,12 @@ use Rattle.rules.specs.Records.{Presence, absent, present, neither, presence, u
 use Rattle.rules.specs.Walk as W
 use Rattle.nesting.specs.Ready.{someTable}
 use Rattle.walk_leaves.specs.declared.cursor.Cursor.{Cursor}
-use Rattle.walk_leaves.specs.declared.cursor.Stop.{Stop}
 use Rattle.walk_records.specs.declared.records.Count.{Count}
 use Rattle.walk_records.specs.declared.records.Count.the-variants.{Absent, Present, Wrong}
 use Rattle.walk_records.specs.declared.records.Opening.{Opening}
 use Rattle.walk_records.specs.declared.records.Opened.{Opened}
 use Rattle.walk_records.specs.declared.records.Opened.the-variants.{Closed, Open, Refused}
-use Rattle.walk_leaves.specs.Doing.{message, stop, gaveOne, Ask}
+use Rattle.walk_leaves.specs.Doing.{message, gaveOne, Ask}
 use Rattle.walk_records.specs.Opening.{countOf, HasCount, afterCount, countedAt}
 use Rattle.walk_records.specs.Contracts.{CountAt, DeeperOpens, CountedOpens, VectorOpens}
 use Rattle.walk_leaves.proofs.Steps.{did-stop, did-one}
@@ -40,33 +41,33 @@ use Rattle.walk_records.proofs.Openings.{record-got, record-wrong, reco
 module _ (bytes : List ℕ) (optional largest at : ℕ) {count says : ℕ} (counted : count ≡ word bytes at 8) (said : says ≡ word bytes (at + 8) 8) where
   pub count-absent : says ≡ 0 → optional ≡ 1 → count ≡ 0 → CountAt bytes optional largest at Absent
   unfolding readCount presence
-  count-absent p q e t handles = (simp (← counted, ← said, p, q, e), tt)
+  count-absent p q e t handles = simp (← counted, ← said, p, q, e)
 
-  pub count-absent-not-zero : says ≡ 0 → optional ≡ 1 → (count ≡ 0 → ⊥) → {f : Stop} → f ≡ stop absentNotZero at → CountAt bytes optional largest at (Wrong f)
+  pub count-absent-not-zero : says ≡ 0 → optional ≡ 1 → (count ≡ 0 → ⊥) → {f : Fault} → f ≡ fault absentNotZero (Byte at) → CountAt bytes optional largest at (Wrong f)
   unfolding readCount presence
-  count-absent-not-zero p q e y t handles = (simp (← counted, ← said, p, q, ne-eqb _ _ e, y), rw y (omega arith))
+  count-absent-not-zero p q e y t handles = simp (← counted, ← said, p, q, ne-eqb _ _ e, y)
 
-  pub count-required : says ≡ 0 → (optional ≡ 1 → ⊥) → {f : Stop} → f ≡ stop requiredAbsent at → CountAt bytes optional largest at (Wrong f)
+  pub count-required : says ≡ 0 → (optional ≡ 1 → ⊥) → {f : Fault} → f ≡ fault requiredAbsent (Byte at) → CountAt bytes optional largest at (Wrong f)
   unfolding readCount presence
-  count-required p q y t handles = (simp (← counted, ← said, p, ne-eqb _ _ q, y), rw y (omega arith))
+  count-required p q y t handles = simp (← counted, ← said, p, ne-eqb _ _ q, y)
 
-  pub count-over : says ≡ ones64 → largest < count → {f : Stop} → f ≡ stop countOverLargest at → CountAt bytes optional largest at (Wrong f)
+  pub count-over : says ≡ ones64 → largest < count → {f : Fault} → f ≡ fault countOverLargest (Byte at) → CountAt bytes optional largest at (Wrong f)
   unfolding readCount presence
-  count-over p h y t handles = (simp (← counted, ← said, p, lt-leb _ _ h, y), rw y (omega arith))
+  count-over p h y t handles = simp (← counted, ← said, p, lt-leb _ _ h, y)
 
   pub count-present : says ≡ ones64 → count ≤ largest → CountAt bytes optional largest at (Present count)
   unfolding readCount presence
-  count-present p h t handles = (simp (← counted, ← said, p, le-leb _ _ h), tt)
+  count-present p h t handles = simp (← counted, ← said, p, le-leb _ _ h)
 
-  pub count-neither : (says ≡ 0 → ⊥) → (says ≡ ones64 → ⊥) → {f : Stop} → f ≡ stop presenceWrong at → CountAt bytes optional largest at (Wrong f)
+  pub count-neither : (says ≡ 0 → ⊥) → (says ≡ ones64 → ⊥) → {f : Fault} → f ≡ fault presenceWrong (Byte at) → CountAt bytes optional largest at (Wrong f)
   unfolding readCount presence
-  count-neither p q y t handles = (simp (← counted, ← said, ne-eqb _ _ p, ne-eqb _ _ q, y), rw y (omega arith))
+  count-neither p q y t handles = simp (← counted, ← said, ne-eqb _ _ p, ne-eqb _ _ q, y)
 
 -- A count that is present is not over the largest, so its elements have fewer than 2^48 bytes.
 module _ (bytes : List ℕ) (optional largest at : ℕ) (k : Count) (reads : CountAt bytes optional largest at k) {count : ℕ} (is : k ≡ Present count) where
   count-bounded : count ≤ largest
   unfolding readCount
-  count-bounded = go (presence ones64 (word bytes (at + 8) 8)) (rw is at (reads someTable 0 .0))
+  count-bounded = go (presence ones64 (word bytes (at + 8) 8)) (rw is at (reads someTable 0))
     where
       not-absent : (o z : Bool) → got (suc count) ≡ readIf (unless requiredAbsent o) at (readIf (unless absentNotZero z) at (got 0)) → ⊥
       not-absent true true y = let w : _≡_ {A = ℕ} 0 1 = cc in omega arith
@@ -97,15 +98,15 @@ module _ (bytes : List ℕ) (optional largest at : ℕ) (k : Count) (reads : Cou
 
 module _ (bytes : List ℕ) (handles depth : ℕ) (values objects : List ℕ) (at : ℕ) (c : Cursor) (row size largest optional : ℕ) (k : Count) (reads : CountAt bytes optional largest at k) where
   read : (t : TypeTable) {is : Count} → k ≡ is → readCount (message t bytes handles) (eqb optional 1) largest at ≡ countOf is
-  read t h = rw h at (sym (reads t handles .0))
+  read t h = rw h at (sym (reads t handles))
 
   pub counted-closed : Ask (length bytes) handles 16 at c → {values′ : List ℕ} {d : Cursor} → k ≡ Absent → values′ ≡ set values (c .values) 0 → d ≡ gaveOne c
       → CountedOpens bytes handles depth values values′ objects objects at c row size largest optional (Closed d)
   counted-closed ask is e g t fields =
       rw (e, g, record-got 16 _ _ at (c .next) (c .handles) (read t is)) (did-one 0 (omega arith) (ask .free) (ask .held))
 
-  pub counted-refused : {f : Stop} → k ≡ Wrong f → CountedOpens bytes handles depth values values objects objects at c row size largest optional (Refused f)
-  counted-refused is t fields = rw (record-wrong 16 _ _ at (c .next) (c .handles) (read t is)) (did-stop (rw is at (reads t handles .1)))
+  pub counted-refused : {f : Fault} → k ≡ Wrong f → CountedOpens bytes handles depth values values objects objects at c row size largest optional (Refused f)
+  counted-refused is t fields = rw (record-wrong 16 _ _ at (c .next) (c .handles) (read t is)) did-stop
 
   counted-whole : (count : ℕ) (t : TypeTable) (fields : (count : ℕ) → (ℕ → Decoder) → D.Deeper → Decoder) → k ≡ Present count
       → countedAt (message t bytes handles) depth row size largest (eqb optional 1) fields at (c .next) (c .handles)

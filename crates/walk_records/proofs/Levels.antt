@@ -4,7 +4,8 @@ use mathlib.Core.Path.{_≡_, refl}
 use mathlib.Core.List.{List}
 use Prim.Native.Nat.{ℕ, zero, suc, _-_, _<_}
 use native.Mathlib.Omega.{arith}
-use Rattle.rules.specs.Refusals.{tooDeep}
+use Rattle.rules.specs.declared.Place.the-variants.{Byte}
+use Rattle.rules.specs.Refusals.{fault, tooDeep}
 use Rattle.rules.specs.Decode as D
 use Rattle.rules.specs.Decode.{Message, Decoder}
 use Rattle.rules.specs.Walk as W
@@ -14,7 +15,7 @@ use Rattle.walk_leaves.specs.declared.cursor.Walked.the-variants.{Refused}
 use Rattle.walk_records.specs.declared.records.Opening.{Opening}
 use Rattle.walk_records.specs.declared.records.Opened.{Opened}
 use Rattle.walk_records.specs.declared.records.Opened.the-variants.{Open}
-use Rattle.walk_leaves.specs.Doing.{stop, Did}
+use Rattle.walk_leaves.specs.Doing.{Did}
 use Rattle.walk_records.specs.Opening.{Reaches}
 use Rattle.walk_leaves.proofs.Steps.{did-stop}
 
@@ -32,8 +33,8 @@ levels-down m (suc depth) n = let e : suc depth - 1 ≡ depth = omega arith in r
 
 -- 5: at the record or envelope that would go deeper.
 pub too-deep : {total handles g : ℕ} {v o : List ℕ} {c : Cursor} {r : Walked} (m : Message) (depth record-at at n u : ℕ) (k : (ℕ → Decoder) → D.Deeper → Decoder)
-    → depth ≡ 0 → r ≡ Refused (stop tooDeep record-at) → Did total handles g v v o o c r (D.oneDeeper (W.levels m depth) record-at k at n u)
-too-deep m depth record-at at n u k e y = rw (levels-spent m depth e, y) (did-stop (omega arith))
+    → depth ≡ 0 → r ≡ Refused (fault tooDeep (Byte record-at)) → Did total handles g v v o o c r (D.oneDeeper (W.levels m depth) record-at k at n u)
+too-deep m depth record-at at n u k e y = rw (levels-spent m depth e, y) did-stop
 
 -- Where an object is open, a level is left.
 pub level-left : (depth : ℕ) (r : Opened) {x : Opening} → Reaches depth r → r ≡ Open x → 0 < depth

@@ -18,13 +18,12 @@ use Rattle.rules.specs.Walk as W
 use Rattle.rules.proofs.Bytes.{padded-above}
 use Rattle.nesting.specs.Ready.{someTable}
 use Rattle.walk_leaves.specs.declared.cursor.Cursor.{Cursor}
-use Rattle.walk_leaves.specs.declared.cursor.Stop.{Stop}
 use Rattle.walk_leaves.specs.declared.cursor.Walked.{Walked}
 use Rattle.walk_leaves.specs.declared.cursor.Walked.the-variants.{On}
 use Rattle.walk_records.specs.declared.records.Opening.{Opening}
 use Rattle.walk_records.specs.declared.records.Opened.{Opened}
 use Rattle.walk_records.specs.declared.records.Opened.the-variants.{Closed, Open, Refused}
-use Rattle.walk_leaves.specs.Doing.{message, stop, gaveOne, Did, Ask}
+use Rattle.walk_leaves.specs.Doing.{message, gaveOne, Did, Ask}
 use Rattle.walk_leaves.specs.Parts.{claimAt, DidObjects}
 use Rattle.walk_records.specs.Opening.{Opens, HasCount}
 use Rattle.walk_records.specs.Contracts.{DeeperOpens}
@@ -72,8 +71,8 @@ module _ (m : Message) (kind row size : ℕ) where
 -- ---- one level down, and a claim there
 
 module _ (bytes : List ℕ) (handles depth : ℕ) (objects : List ℕ) (at : ℕ) (c : Cursor) (kind row size : ℕ) where
-  pub deeper-spent : {f : Stop} → depth ≡ 0 → f ≡ stop tooDeep at → DeeperOpens bytes handles depth objects objects at c kind row size (Refused f)
-  deeper-spent h e t values fields = rw (e, levels-spent (message t bytes handles) depth h) (did-stop (omega arith))
+  pub deeper-spent : {f : Fault} → depth ≡ 0 → f ≡ fault tooDeep (Byte at) → DeeperOpens bytes handles depth objects objects at c kind row size (Refused f)
+  deeper-spent h e t values fields = rw (e, levels-spent (message t bytes handles) depth h) did-stop
 
   module _ {objects′ : List ℕ} {w : Walked} (down : depth ≡ 0 → ⊥) (ask : Ask (length bytes) handles 4 at c) (claims : DidObjects bytes objects objects′ 4 0 c w (claimAt kind row size)) where
     pub deeper-opened : (count : ℕ) {d : Cursor} → w ≡ On d → DeeperOpens bytes handles depth objects objects′ at c kind row size (Open (record { count = count; start = c .next; cursor = d }))
@@ -98,7 +97,7 @@ module _ (bytes : List ℕ) (handles depth : ℕ) (objects : List ℕ) (at : ℕ
           did .rises,
         )
 
-    pub deeper-refused : {f : Stop} → w ≡ Walked.Refused f → DeeperOpens bytes handles depth objects objects′ at c kind row size (Refused f)
+    pub deeper-refused : {f : Fault} → w ≡ Walked.Refused f → DeeperOpens bytes handles depth objects objects′ at c kind row size (Refused f)
     deeper-refused e t values fields =
         let m = message t bytes handles in
         rw (levels-down m depth down, claim-then m kind row size, claim-anywhere m kind row size at 0) (did-halt 4 _ (rw e at (claims t values handles (ask .free) (ask .held))))

@@ -7,6 +7,7 @@ use native.Mathlib.Omega.{arith}
 use borrow.Author.Tests.{eq-eqb, ne-eqb, le-leb, lt-leb}
 use lib.Dec.{eqb}
 use lib.ListN.{length}
+use Rattle.rules.specs.declared.Fault.{Fault}
 use Rattle.rules.specs.declared.Place.the-variants.{Byte}
 use Rattle.rules.specs.Refusals.{fault, tooDeep, envelopeFormWrong, envelopeNumberWrong, fillNotZero}
 use Rattle.rules.specs.Bytes.{part, word, leadingZeros}
@@ -18,12 +19,11 @@ use Rattle.rules.specs.Decode.{Message, Decoded, went, Decoder}
 use Rattle.rules.specs.Envelope.{inLine, outOfLine, lowWord, handleNumber, flags, flagged, byteNumbered, contentOfEightBytes}
 use Rattle.rules.specs.Walk as W
 use Rattle.walk_leaves.specs.declared.cursor.Cursor.{Cursor}
-use Rattle.walk_leaves.specs.declared.cursor.Stop.{Stop}
 use Rattle.walk_leaves.specs.declared.cursor.Walked.{Walked}
 use Rattle.walk_leaves.specs.declared.cursor.Walked.the-variants.{On, Refused}
 use Rattle.walk_records.specs.declared.records.Opened.{Opened}
 use Rattle.walk_records.specs.declared.records.Opened.the-variants.{Closed, Open}
-use Rattle.walk_leaves.specs.Doing.{message, stop, Did, Ask}
+use Rattle.walk_leaves.specs.Doing.{message, Did, Ask}
 use Rattle.walk_records.specs.Opening.{Opens, handlesSealed, sealedAt, payloadOf}
 use Rattle.walk_leaves.proofs.Steps.{did-stop, did-nothing, did-more}
 use Rattle.walk_records.specs.Contracts.{DeeperOpens}
@@ -39,17 +39,17 @@ module _ (t : TypeTable) (bytes values objects : List ℕ) (handles at used : �
       → Did (length bytes) handles 0 values values objects objects c (On c) (handlesSealed (message t bytes handles) at used (c .next) (c .handles))
   handles-right q h k = rw (← e, eq-eqb _ _ q) (did-nothing h k)
 
-  pub handles-wrong : {r : Walked} → (number ≡ c .handles - used → ⊥) → r ≡ Refused (stop envelopeNumberWrong at)
+  pub handles-wrong : {r : Walked} → (number ≡ c .handles - used → ⊥) → r ≡ Refused (fault envelopeNumberWrong (Byte at))
       → Did (length bytes) handles 0 values values objects objects c r (handlesSealed (message t bytes handles) at used (c .next) (c .handles))
-  handles-wrong n y = rw (← e, ne-eqb _ _ n, y) (did-stop (omega arith))
+  handles-wrong n y = rw (← e, ne-eqb _ _ n, y) did-stop
 
 module _ (t : TypeTable) (bytes values objects : List ℕ) (handles size at next used : ℕ) (c : Cursor) {r : Walked} where
   -- in line,
   module _ {zeros : ℕ} (small : size ≤ 4) (e : zeros ≡ leadingZeros (part bytes (at + size) (4 - size))) where
-    pub fill-wrong : zeros < 4 - size → r ≡ Refused (stop fillNotZero (at + size + zeros))
+    pub fill-wrong : zeros < 4 - size → r ≡ Refused (fault fillNotZero (Byte (at + size + zeros)))
         → Did (length bytes) handles 0 values values objects objects c r (sealedAt (message t bytes handles) size at next used (c .next) (c .handles))
     unfolding sealedAt D.fill
-    fill-wrong h y = rw (le-leb _ _ small, ← e, ne-eqb zeros (4 - size) (λ q. omega arith), y) (did-stop (omega arith))
+    fill-wrong h y = rw (le-leb _ _ small, ← e, ne-eqb zeros (4 - size) (λ q. omega arith), y) did-stop
 
     pub fill-right : 4 - size ≤ zeros
         → Did (length bytes) handles 0 values values objects objects c r (handlesSealed (message t bytes handles) at used (c .next) (c .handles))
@@ -61,10 +61,10 @@ module _ (t : TypeTable) (bytes values objects : List ℕ) (handles size at next
 
   -- and out of line.
   module _ {number : ℕ} (large : 4 < size) (e : number ≡ word bytes at 4) where
-    pub bytes-wrong : (number ≡ c .next - next → ⊥) → r ≡ Refused (stop envelopeNumberWrong at)
+    pub bytes-wrong : (number ≡ c .next - next → ⊥) → r ≡ Refused (fault envelopeNumberWrong (Byte at))
         → Did (length bytes) handles 0 values values objects objects c r (sealedAt (message t bytes handles) size at next used (c .next) (c .handles))
     unfolding sealedAt
-    bytes-wrong n y = rw (lt-leb _ _ large, ← e, ne-eqb _ _ n, y) (did-stop (omega arith))
+    bytes-wrong n y = rw (lt-leb _ _ large, ← e, ne-eqb _ _ n, y) did-stop
 
     pub bytes-right : number ≡ c .next - next
         → Did (length bytes) handles 0 values values objects objects c r (handlesSealed (message t bytes handles) at used (c .next) (c .handles))
@@ -129,13 +129,13 @@ module _ (t : TypeTable) (bytes values objects : List ℕ) (handles depth row pa
       (λ n u. sealedAt (message t bytes handles) size at (c .next) (c .handles) n u))
   in-line h = rw q (known-in-line (message t bytes handles) (W.levels (message t bytes handles) depth) row payload at (c .next) (c .handles) e h)
 
-  pub in-line-wrong : {f : Stop} → size ≤ 4 → (form ≡ inLine → ⊥) → f ≡ stop envelopeFormWrong at
+  pub in-line-wrong : {f : Fault} → size ≤ 4 → (form ≡ inLine → ⊥) → f ≡ fault envelopeFormWrong (Byte at)
       → Did (length bytes) handles 7 values values objects objects c (Refused f) (knownAt t bytes handles depth row payload at c)
-  in-line-wrong h k y = rw (in-line h, ne-eqb _ _ k, y) (did-stop (omega arith))
+  in-line-wrong h k y = rw (in-line h, ne-eqb _ _ k, y) did-stop
 
-  pub in-line-too-deep : {f : Stop} → size ≤ 4 → form ≡ inLine → depth ≡ 0 → f ≡ stop tooDeep at
+  pub in-line-too-deep : {f : Fault} → size ≤ 4 → form ≡ inLine → depth ≡ 0 → f ≡ fault tooDeep (Byte at)
       → Did (length bytes) handles 7 values values objects objects c (Refused f) (knownAt t bytes handles depth row payload at c)
-  in-line-too-deep h k d y = rw (in-line h, eq-eqb _ _ k, levels-spent _ depth d, y) (did-stop (omega arith))
+  in-line-too-deep h k d y = rw (in-line h, eq-eqb _ _ k, levels-spent _ depth d, y) did-stop
 
   pub in-line-open : size ≤ 4 → form ≡ inLine → (depth ≡ 0 → ⊥) → Ask (length bytes) handles 7 at c
       → Opens (length bytes) handles 7 values values objects objects c (knownAt t bytes handles depth row payload at c)
@@ -155,9 +155,9 @@ module _ (t : TypeTable) (bytes values objects : List ℕ) (handles depth row pa
       (known-out-of-line (message t bytes handles) (W.levels (message t bytes handles) depth) row payload at (c .next) (c .handles) e h
       ∙ rw (deeper-followed (message t bytes handles) payloadObject payload size payload))
 
-  pub out-of-line-wrong : {f : Stop} → 4 < size → (form ≡ outOfLine → ⊥) → f ≡ stop envelopeFormWrong at
+  pub out-of-line-wrong : {f : Fault} → 4 < size → (form ≡ outOfLine → ⊥) → f ≡ fault envelopeFormWrong (Byte at)
       → Did (length bytes) handles 7 values values objects objects c (Refused f) (knownAt t bytes handles depth row payload at c)
-  out-of-line-wrong h k y = rw (out-of-line h, ne-eqb _ _ k, y) (did-stop (omega arith))
+  out-of-line-wrong h k y = rw (out-of-line h, ne-eqb _ _ k, y) did-stop
 
   pub out-of-line-open : (objects′ : List ℕ) (r : Opened) → 4 < size → form ≡ outOfLine → DeeperOpens bytes handles depth objects objects′ at c payloadObject payload size r
       → Opens (length bytes) handles 7 values values objects objects′ c (knownAt t bytes handles depth row payload at c)

@@ -8,6 +8,7 @@ use native.Mathlib.Numerals.{add-one}
 use native.Mathlib.Omega.{arith}
 use lib.Dec.{eqb}
 use lib.ListN.{length}
+use Rattle.rules.specs.declared.Fault.{Fault}
 use Rattle.rules.specs.declared.Place.the-variants.{Byte}
 use Rattle.rules.specs.Refusals.{if_then_else_, fault, textNotUtf8}
 use Rattle.rules.specs.Bytes.{part}
@@ -20,13 +21,12 @@ use Rattle.rules.specs.Envelope.{decodeWord}
 use Rattle.rules.specs.Walk as W
 use Rattle.words.proofs.Loads.{part-cons, word-byte}
 use Rattle.walk_leaves.specs.declared.cursor.Cursor.{Cursor}
-use Rattle.walk_leaves.specs.declared.cursor.Stop.{Stop}
 use Rattle.walk_leaves.specs.declared.cursor.Walked.{Walked}
 use Rattle.walk_leaves.specs.declared.cursor.Walked.the-variants.{On, Refused}
 use Rattle.walk_records.specs.declared.records.Opening.{Opening}
 use Rattle.walk_records.specs.declared.records.Opened.{Opened}
 use Rattle.walk_records.specs.declared.records.Opened.the-variants.{Closed, Open}
-use Rattle.walk_leaves.specs.Doing.{message, stop, faultOf, Did}
+use Rattle.walk_leaves.specs.Doing.{message, Did}
 use Rattle.walk_leaves.specs.Parts.{numbersAt, DidValues}
 use Rattle.walk_records.specs.Opening.{afterCount, countedAt, stringAt}
 use Rattle.walk_records.specs.Contracts.{CountedOpens, StringDid}
@@ -44,17 +44,17 @@ numbers-bytes m index (suc count) at n u h =
     rw (numbers-bytes m (suc index) count (at + 1) n u (omega arith), word-byte, part-cons (m .bytes) at count (omega arith), add-one)
 
 -- A test of the values given, which they pass or fail.
-judged : Bool → Cursor → Stop → Walked
-judged holds e s = if holds then On e else Refused s
+judged : Bool → Cursor → Fault → Walked
+judged holds e f = if holds then On e else Refused f
 
-did-checked : {total handles g : ℕ} {v v′ o o′ : List ℕ} {c e : Cursor} {d : Decoded} (test : List ℕ → Bool) (s : Stop) {n u : ℕ} {vs : List ℕ} {t : List Event} (holds : Bool)
-    → s .number < 4294967296 → d ≡ went n u vs t → test vs ≡ holds → Did total handles g v v′ o o′ c (On e) d
-    → Did total handles g v v′ o o′ c (judged holds e s) (D.requireAfter (λ n₁ u₁ values. test values) (faultOf s) d)
+did-checked : {total handles g : ℕ} {v v′ o o′ : List ℕ} {c e : Cursor} {d : Decoded} (test : List ℕ → Bool) (f : Fault) {n u : ℕ} {vs : List ℕ} {t : List Event} (holds : Bool)
+    → d ≡ went n u vs t → test vs ≡ holds → Did total handles g v v′ o o′ c (On e) d
+    → Did total handles g v v′ o o′ c (judged holds e f) (D.requireAfter (λ n₁ u₁ values. test values) f d)
 unfolding judged
-did-checked test s true k y h p = rw (y, h) (rw y at p)
-did-checked {total} {handles} {g} {v} {v′} {o} {o′} {c} {e} test s {n} {u} {vs} {t} false k y h p =
+did-checked test f true y h p = rw (y, h) (rw y at p)
+did-checked {total} {handles} {g} {v} {v′} {o} {o′} {c} {e} test f {n} {u} {vs} {t} false y h p =
     let q : Did total handles g v v′ o o′ c (On e) (went n u vs t) = rw y at p in
-    rw (y, h) (record { says = refl; valued = q .valued; listed = q .listed; within = k; rises = tt })
+    rw (y, h) (record { says = refl; valued = q .valued; listed = q .listed; within = tt; rises = tt })
 
 -- ---- the record and its text
 
@@ -77,7 +77,7 @@ module _ (bytes : List ℕ) (handles depth : ℕ) (values values′ objects obje
       let m = message t bytes handles in
       rw (string-counted m depth row largest (eqb optional 1) at) (rw h at (opens t (textOf m at)))
 
-  pub string-refused : {f : Stop} → r ≡ Opened.Refused f → StringDid bytes handles depth values values′ objects objects′ at c row largest optional (Refused f)
+  pub string-refused : {f : Fault} → r ≡ Opened.Refused f → StringDid bytes handles depth values values′ objects objects′ at c row largest optional (Refused f)
   string-refused h t =
       let m = message t bytes handles in
       rw (string-counted m depth row largest (eqb optional 1) at) (rw h at (opens t (textOf m at)))
@@ -92,7 +92,7 @@ module _ (bytes : List ℕ) (handles depth : ℕ) (values values′ objects obje
 
   module _ {x : Opening} (opened : r ≡ Open x) {values″ : List ℕ} {e : Cursor} (given : DidValues bytes values′ values″ (x .count) (x .start) (x .cursor) (On e) (numbersAt 1 (x .count))) where
     string-judged : (holds : Bool) {text : Bool} → text ≡ isUtf8 (part bytes (x .start) (x .count)) → text ≡ holds
-        → StringDid bytes handles depth values values″ objects objects′ at c row largest optional (judged holds e (stop textNotUtf8 at))
+        → StringDid bytes handles depth values values″ objects objects′ at c row largest optional (judged holds e (fault textNotUtf8 (Byte at)))
     unfolding numbersAt textOf D.checked
     string-judged holds text h t =
         let m = message t bytes handles in
@@ -101,13 +101,13 @@ module _ (bytes : List ℕ) (handles depth : ℕ) (values values′ objects obje
         rw (string-counted m depth row largest (eqb optional 1) at)
         (o .1 values″ objects′ _
         (did-more (x .count * 1) (omega arith)
-        (did-checked isUtf8 (stop textNotUtf8 at) holds (omega arith) (numbers-bytes m 0 (x .count) (x .start) _ _ inside) (sym text ∙ h) (given t objects′ handles (o .0 .free) (o .0 .held)))))
+        (did-checked isUtf8 _ holds (numbers-bytes m 0 (x .count) (x .start) _ _ inside) (sym text ∙ h) (given t objects′ handles (o .0 .free) (o .0 .held)))))
 
     pub string-text : {text : Bool} → text ≡ isUtf8 (part bytes (x .start) (x .count)) → text ≡ true → StringDid bytes handles depth values values″ objects objects′ at c row largest optional (On e)
     unfolding judged
     string-text = string-judged true
 
-    pub string-not-text : {w : Walked} {text : Bool} → text ≡ isUtf8 (part bytes (x .start) (x .count)) → text ≡ false → w ≡ Refused (stop textNotUtf8 at)
+    pub string-not-text : {w : Walked} {text : Bool} → text ≡ isUtf8 (part bytes (x .start) (x .count)) → text ≡ false → w ≡ Refused (fault textNotUtf8 (Byte at))
         → StringDid bytes handles depth values values″ objects objects′ at c row largest optional w
     unfolding judged
     string-not-text text h y = rw y (string-judged false text h)

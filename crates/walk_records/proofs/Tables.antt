@@ -10,6 +10,7 @@ use mir.Val.{Fits}
 use borrow.Author.Tests.{ne-eqb}
 use lib.Dec.{eqb}
 use lib.ListN.{length, set}
+use Rattle.rules.specs.declared.Fault.{Fault}
 use Rattle.rules.specs.declared.Place.the-variants.{Byte}
 use Rattle.rules.specs.Refusals.{fault, tooDeep, objectDoesNotFit, presenceWrong, requiredAbsent, lastEnvelopeZero}
 use Rattle.rules.specs.Bytes.{word, ones64}
@@ -22,12 +23,11 @@ use Rattle.rules.specs.Envelope.{contentOfEightBytes}
 use Rattle.rules.specs.Walk as W
 use Rattle.nesting.proofs.Edition.{envelope-size, content-read}
 use Rattle.walk_leaves.specs.declared.cursor.Cursor.{Cursor}
-use Rattle.walk_leaves.specs.declared.cursor.Stop.{Stop}
 use Rattle.walk_leaves.specs.declared.cursor.Walked.{Walked}
 use Rattle.walk_records.specs.declared.records.Opening.{Opening}
 use Rattle.walk_records.specs.declared.records.Opened.{Opened}
 use Rattle.walk_records.specs.declared.records.Opened.the-variants.{Closed, Open, Refused}
-use Rattle.walk_leaves.specs.Doing.{message, stop, gaveOne, Ask}
+use Rattle.walk_leaves.specs.Doing.{message, gaveOne, Ask}
 use Rattle.walk_records.specs.Opening.{Opens, HasCount, tableAt}
 use Rattle.walk_records.specs.Contracts.{DeeperOpens, EnvelopesOpen, TableOpens}
 use Rattle.walk_leaves.proofs.Steps.{did-stop}
@@ -68,16 +68,16 @@ last-judged m size (suc count) envelopes at n u h = let e : suc count - 1 ≡ co
 -- ---- the envelopes, one level deeper
 
 module _ (bytes : List ℕ) (handles depth : ℕ) (objects : List ℕ) (at : ℕ) (c : Cursor) (row count : ℕ) where
-  pub envelopes-spent : {f : Stop} → depth ≡ 0 → f ≡ stop tooDeep at → EnvelopesOpen bytes handles depth objects objects at c row count (Refused f)
+  pub envelopes-spent : {f : Fault} → depth ≡ 0 → f ≡ fault tooDeep (Byte at) → EnvelopesOpen bytes handles depth objects objects at c row count (Refused f)
   envelopes-spent h e t values envelopes = deeper-spent bytes handles depth objects at c envelopesObject row (count * 8) h e t values _
 
   -- So many fit in no message.
-  pub envelopes-over : {f : Stop} → (depth ≡ 0 → ⊥) → Ask (length bytes) handles 4 at c → 8192 < count → f ≡ stop objectDoesNotFit (c .next)
+  pub envelopes-over : {f : Fault} → (depth ≡ 0 → ⊥) → Ask (length bytes) handles 4 at c → 8192 < count → f ≡ fault objectDoesNotFit (Byte (c .next))
       → EnvelopesOpen bytes handles depth objects objects at c row count (Refused f)
   envelopes-over h ask over e t values envelopes =
       let m = message t bytes handles in
       let longer : length bytes < count * 8 = omega arith in
-      rw (e, levels-down m depth h, claim-over m envelopesObject row (count * 8) _ at (c .next) (c .handles) longer) (did-stop (omega arith))
+      rw (e, levels-down m depth h, claim-over m envelopesObject row (count * 8) _ at (c .next) (c .handles) longer) did-stop
 
   module _ (objects′ : List ℕ) (r : Opened) (opens : DeeperOpens bytes handles depth objects objects′ at c envelopesObject row (count * 8) r) where
     judged : (t : TypeTable) (values : List ℕ) (envelopes : D.Deeper → Decoder)
@@ -91,21 +91,21 @@ module _ (bytes : List ℕ) (handles depth : ℕ) (objects : List ℕ) (at : ℕ
     pub envelopes-closed : {e : Cursor} → r ≡ Closed e → EnvelopesOpen bytes handles depth objects objects′ at c row count (Closed e)
     envelopes-closed h t values envelopes = rw h at (judged t values envelopes)
 
-    pub envelopes-refused : {f : Stop} → r ≡ Refused f → EnvelopesOpen bytes handles depth objects objects′ at c row count (Refused f)
+    pub envelopes-refused : {f : Fault} → r ≡ Refused f → EnvelopesOpen bytes handles depth objects objects′ at c row count (Refused f)
     envelopes-refused h t values envelopes = rw h at (judged t values envelopes)
 
     module _ {x : Opening} (opened : r ≡ Open x) where
       pub last-fits : Fits w64 (x .start + (count - 1) * 8)
       last-fits = let ask = deeper-ask bytes handles depth objects objects′ at c envelopesObject row (count * 8) r opens opened in omega arith
 
-      pub envelopes-last-zero : {f : Stop} {last : ℕ} → 0 < count → last ≡ word bytes (x .start + (count - 1) * 8) 8 → last ≡ 0
-          → f ≡ stop lastEnvelopeZero (x .start + (count - 1) * 8) → EnvelopesOpen bytes handles depth objects objects′ at c row count (Refused f)
+      pub envelopes-last-zero : {f : Fault} {last : ℕ} → 0 < count → last ≡ word bytes (x .start + (count - 1) * 8) 8 → last ≡ 0
+          → f ≡ fault lastEnvelopeZero (Byte (x .start + (count - 1) * 8)) → EnvelopesOpen bytes handles depth objects objects′ at c row count (Refused f)
       envelopes-last-zero {f} some loaded z e t values envelopes =
           let m = message t bytes handles in
           let o = rw opened at (judged t values envelopes) in
           let inside : x .start + (count - 1) * 8 + 8 ≤ length bytes = omega (arith, o .0 .inside) in
           let zeros = zero-word (m .bytes) (x .start + (count - 1) * 8) 8 inside (sym loaded ∙ z) in
-          o .1 values objects′ (Walked.Refused f) (rw (e, last-judged m 8 count, zeros) (did-stop (omega arith)))
+          o .1 values objects′ (Walked.Refused f) (rw (e, last-judged m 8 count, zeros) did-stop)
 
       pub envelopes-none : count ≤ 0 → EnvelopesOpen bytes handles depth objects objects′ at c row count (Open x)
       envelopes-none none t values envelopes =
@@ -128,14 +128,14 @@ envelopesIn m row content count below =
 
 module _ (bytes : List ℕ) (handles depth : ℕ) (values objects : List ℕ) (at : ℕ) (c : Cursor) (row : ℕ) {count says : ℕ}
     (counted : count ≡ word bytes at 8) (said : says ≡ word bytes (at + 8) 8) where
-  pub table-absent : {f : Stop} → says ≡ 0 → f ≡ stop requiredAbsent at → TableOpens bytes handles depth values values objects objects at c row (Refused f)
+  pub table-absent : {f : Fault} → says ≡ 0 → f ≡ fault requiredAbsent (Byte at) → TableOpens bytes handles depth values values objects objects at c row (Refused f)
   table-absent p e t content edition =
-      rw (e, record-wrong 16 _ _ at (c .next) (c .handles) (read-absent (message t bytes handles) at counted said p)) (did-stop (omega arith))
+      rw (e, record-wrong 16 _ _ at (c .next) (c .handles) (read-absent (message t bytes handles) at counted said p)) did-stop
 
-  pub table-neither : {f : Stop} → (says ≡ 0 → ⊥) → (says ≡ ones64 → ⊥) → f ≡ stop presenceWrong at
+  pub table-neither : {f : Fault} → (says ≡ 0 → ⊥) → (says ≡ ones64 → ⊥) → f ≡ fault presenceWrong (Byte at)
       → TableOpens bytes handles depth values values objects objects at c row (Refused f)
   table-neither p q e t content edition =
-      rw (e, record-wrong 16 _ _ at (c .next) (c .handles) (read-neither (message t bytes handles) at counted said p q)) (did-stop (omega arith))
+      rw (e, record-wrong 16 _ _ at (c .next) (c .handles) (read-neither (message t bytes handles) at counted said p q)) did-stop
 
   table-whole : (t : TypeTable) (content : ℕ → Content) → t .edition ≡ eightByteEnvelopes → says ≡ ones64
       → tableAt (message t bytes handles) depth row content at (c .next) (c .handles)

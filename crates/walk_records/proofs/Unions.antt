@@ -10,6 +10,7 @@ use mir.Val.{Fits}
 use borrow.Author.Tests.{eq-eqb, ne-eqb, leb-true, leb-false, not-true, not-false}
 use lib.Dec.{leb, eqb}
 use lib.ListN.{length, getD}
+use Rattle.rules.specs.declared.Fault.{Fault}
 use Rattle.rules.specs.declared.Place.the-variants.{Byte}
 use Rattle.rules.specs.Refusals.{if_then_else_, fault, requiredAbsent, absentNotZero, ordinalUnknown, presentEnvelopeZero}
 use Rattle.rules.specs.Bytes.{word}
@@ -26,10 +27,9 @@ use Rattle.nesting.proofs.Ordinals.{halved-content}
 use Rattle.nesting.proofs.Members.{MembersRise, ordinal-fits}
 use Rattle.walk_leaves.specs.declared.cursor.Cursor.{Cursor}
 use Rattle.walk_leaves.specs.declared.cursor.Walked.the-variants.{On, Refused}
-use Rattle.walk_leaves.specs.declared.cursor.Stop.{Stop}
 use Rattle.walk_records.specs.declared.envelopes.Member.{Member}
 use Rattle.walk_records.specs.declared.envelopes.Member.the-variants.{Some}
-use Rattle.walk_leaves.specs.Doing.{message, stop, Did, Ask}
+use Rattle.walk_leaves.specs.Doing.{message, Did, Ask}
 use Rattle.walk_records.specs.Opening.{OpensMember, unionAt}
 use Rattle.walk_records.specs.Contracts.{MemberIs}
 use Rattle.walk_leaves.proofs.Steps.{did-stop, did-nothing}
@@ -44,10 +44,10 @@ unionOf t bytes handles depth row first count form at c =
 -- ---- without a member
 
 module _ (t : TypeTable) (bytes values objects : List ℕ) (handles depth row first count form at : ℕ) (c : Cursor) {ordinal : ℕ} (e : ordinal ≡ word bytes at 8) (z : ordinal ≡ 0) where
-  pub union-required : {f : Stop} → form % 2 ≡ 0 → f ≡ stop requiredAbsent at
+  pub union-required : {f : Fault} → form % 2 ≡ 0 → f ≡ fault requiredAbsent (Byte at)
       → Did (length bytes) handles 16 values values objects objects c (Refused f) (unionOf t bytes handles depth row first count form at c)
   unfolding D.recordThen readNumber
-  union-required o y = rw (← e, z, ne-eqb (form % 2) 1 (λ q. omega arith), y) (did-stop (omega arith))
+  union-required o y = rw (← e, z, ne-eqb (form % 2) 1 (λ q. omega arith), y) did-stop
 
   module _ (edition : t .edition ≡ eightByteEnvelopes) (ask : Ask (length bytes) handles 16 at c) (o : form % 2 ≡ 0 → ⊥) {envelope : ℕ} (q : envelope ≡ word bytes (at + 8) 8) {values′ : List ℕ} {d : Cursor} (g : Gave values values′ c d 0) where
     pub union-absent : ((i : ℕ) → Fits w8 (getD bytes i 0)) → envelope ≡ 0
@@ -58,12 +58,12 @@ module _ (t : TypeTable) (bytes values objects : List ℕ) (handles depth row fi
         rw (← e, z, eq-eqb (form % 2) 1 (omega (arith, o)), envelope-size edition, zero-word bytes (at + 8) 8 (omega arith) (sym q ∙ n))
         (did-gave {g = 15} 16 0 (λ n u. went n u [] []) g (did-nothing (a .free) (a .held)) (omega arith))
 
-    pub union-not-absent : {f : Stop} → (envelope ≡ 0 → ⊥) → f ≡ stop absentNotZero at
+    pub union-not-absent : {f : Fault} → (envelope ≡ 0 → ⊥) → f ≡ fault absentNotZero (Byte at)
         → Did (length bytes) handles 16 values values′ objects objects c (Refused f) (unionOf t bytes handles depth row first count form at c)
     unfolding D.recordThen readNumber D.zeroEnvelope
     union-not-absent n y =
         rw (← e, z, eq-eqb (form % 2) 1 (omega (arith, o)), envelope-size edition, nonzero-word bytes (at + 8) 8 (omega arith) (λ w. n (q ∙ w)), y)
-        (did-gave {g = 15} 16 0 (λ n u. stopped (fault absentNotZero (Byte at)) [] []) g (did-stop (omega arith)) (omega arith))
+        (did-gave {g = 15} 16 0 (λ n u. stopped (fault absentNotZero (Byte at)) [] []) g did-stop (omega arith))
 
 -- ---- with a member
 
@@ -107,17 +107,17 @@ module _ (t : TypeTable) (bytes values objects : List ℕ) (handles depth row fi
       present t bytes handles depth row at (c .next) (c .handles) (contentOf t first count) (eqb (form % 2) 1) (eqb (form / 2) 1) ordinal edition n (sym e)
       ∙ rw (← w, ← k, accepts form known small)
 
-  pub union-unknown : {f : Stop} → not (leb 2 form || known) ≡ true → f ≡ stop ordinalUnknown at
+  pub union-unknown : {f : Fault} → not (leb 2 form || known) ≡ true → f ≡ fault ordinalUnknown (Byte at)
       → Did (length bytes) handles 16 values values objects objects c (Refused f) (unionOf t bytes handles depth row first count form at c)
-  union-unknown a y = rw (kept, not-true (leb 2 form || known) a, y) (did-stop (omega arith))
+  union-unknown a y = rw (kept, not-true (leb 2 form || known) a, y) did-stop
 
   module _ {values′ : List ℕ} {d : Cursor} {envelope : ℕ} (a : not (leb 2 form || known) ≡ false) (q : envelope ≡ word bytes (at + 8) 8) (g : Gave values values′ c d ordinal) where
-    pub union-empty : {f : Stop} → ((i : ℕ) → Fits w8 (getD bytes i 0)) → envelope ≡ 0 → f ≡ stop presentEnvelopeZero (at + 8)
+    pub union-empty : {f : Fault} → ((i : ℕ) → Fits w8 (getD bytes i 0)) → envelope ≡ 0 → f ≡ fault presentEnvelopeZero (Byte (at + 8))
         → Did (length bytes) handles 16 values values′ objects objects c (Refused f) (unionOf t bytes handles depth row first count form at c)
     unfolding D.presentEnvelope
     union-empty b z y =
         rw (kept, not-false (leb 2 form || known) a, zero-word bytes (at + 8) 8 (omega arith) (sym q ∙ z), y)
-        (did-gave {g = 15} 16 ordinal (λ n u. stopped (fault presentEnvelopeZero (Byte (at + 8))) [] []) g (did-stop (omega arith)) (omega arith))
+        (did-gave {g = 15} 16 ordinal (λ n u. stopped (fault presentEnvelopeZero (Byte (at + 8))) [] []) g did-stop (omega arith))
 
     pub union-member : (envelope ≡ 0 → ⊥)
         → OpensMember (length bytes) handles 16 values values′ objects objects c (unionOf t bytes handles depth row first count form at c)

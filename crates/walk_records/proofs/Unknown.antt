@@ -9,7 +9,9 @@ use native.Mathlib.Omega.{arith}
 use borrow.Author.Tests.{eq-eqb, ne-eqb, le-leb, lt-leb}
 use lib.Dec.{ltb, eqb}
 use lib.ListN.{length}
-use Rattle.rules.specs.Refusals.{tooFewHandles, envelopeFormWrong}
+use Rattle.rules.specs.declared.Fault.{Fault}
+use Rattle.rules.specs.declared.Place.the-variants.{Byte}
+use Rattle.rules.specs.Refusals.{fault, tooFewHandles, envelopeFormWrong}
 use Rattle.rules.specs.Trace.{unknownContent, unknownObject, objectList}
 use Rattle.rules.specs.Bytes.{word, padded}
 use Rattle.rules.specs.TypeTable.{TypeTable}
@@ -20,10 +22,9 @@ use Rattle.rules.specs.Envelope.{inLine, outOfLine, decodeWord, unknownInLine, 
 use Rattle.rules.specs.Walk as W
 use Rattle.nesting.specs.Ready.{someTable}
 use Rattle.walk_leaves.specs.declared.cursor.Cursor.{Cursor}
-use Rattle.walk_leaves.specs.declared.cursor.Stop.{Stop}
 use Rattle.walk_leaves.specs.declared.cursor.Walked.{Walked}
 use Rattle.walk_leaves.specs.declared.cursor.Walked.the-variants.{On, Refused}
-use Rattle.walk_leaves.specs.Doing.{message, stop, load, Did, Ask}
+use Rattle.walk_leaves.specs.Doing.{message, load, Did, Ask}
 use Rattle.walk_leaves.specs.Parts.{claimAt, numbersAt, DidObjects, DidValues}
 use Rattle.walk_records.specs.Opening.{rawWords}
 use Rattle.walk_records.specs.Contracts.{TakenDid, RawWordsDid}
@@ -36,11 +37,11 @@ use Rattle.walk_records.proofs.Claiming.{claim-then, claim-anywhere, cl
 -- ---- handles
 
 module _ (t : TypeTable) (bytes values objects : List ℕ) (handles number content at from : ℕ) (c : Cursor) where
-  pub taken-few : {r : Walked} → handles < c .handles + number → r ≡ Refused (stop tooFewHandles at)
+  pub taken-few : {r : Walked} → handles < c .handles + number → r ≡ Refused (fault tooFewHandles (Byte at))
       → Did (length bytes) handles 0 values values objects objects c r
       (D.takeHandles (message t bytes handles) at (unknownContent content number) from (c .next) (c .handles))
   unfolding D.takeHandles
-  taken-few h y = rw (lt-leb _ _ h, y) (did-stop (omega arith))
+  taken-few h y = rw (lt-leb _ _ h, y) did-stop
 
   pub taken-all : c .handles + number ≤ handles → c .next ≤ length bytes
       → Did (length bytes) handles 0 values values objects objects c
@@ -106,7 +107,7 @@ words-parts m row size number at n u =
 
 module _ (bytes objects objects′ : List ℕ) (handles row size number at : ℕ) (c : Cursor) {x : Walked} (ask : Ask (length bytes) handles 5 at c)
     (claim : DidObjects bytes objects objects′ 4 0 c x (claimAt unknownObject row size)) where
-  pub claim-refused : (t : TypeTable) (values : List ℕ) {f : Stop} → x ≡ Refused f
+  pub claim-refused : (t : TypeTable) (values : List ℕ) {f : Fault} → x ≡ Refused f
       → Did (length bytes) handles 5 values values objects objects′ c (Refused f) (rawWords (message t bytes handles) row size number at (c .next) (c .handles))
   claim-refused t values e =
       rw (words-parts (message t bytes handles) row size number at (c .next) (c .handles))
@@ -126,7 +127,7 @@ module _ (bytes objects objects′ : List ℕ) (handles row size number at : ℕ
         (w .0, w .1, q .0, omega arith)
 
     module _ {y : Walked} (taken : TakenDid handles number at d y) where
-      pub handles-refused : (t : TypeTable) (values : List ℕ) {f : Stop} → y ≡ Refused f
+      pub handles-refused : (t : TypeTable) (values : List ℕ) {f : Fault} → y ≡ Refused f
           → Did (length bytes) handles 5 values values objects objects′ c (Refused f) (rawWords (message t bytes handles) row size number at (c .next) (c .handles))
       handles-refused t values e =
           rw (words-parts (message t bytes handles) row size number at (c .next) (c .handles))
@@ -177,10 +178,10 @@ module _ (t : TypeTable) (bytes values values′ objects objects′ : List ℕ) 
         let w′ : (eqb form outOfLine && (eqb (word bytes at 4 % 8) 0 && ltb 0 (word bytes at 4))) ≡ true = rw (← l) w in
         rw (← q, ne-eqb _ _ n, w′) d
 
-    pub form-neither : (eqb form outOfLine && (eqb (low % 8) 0 && ltb 0 low)) ≡ false → r ≡ Refused (stop envelopeFormWrong at)
+    pub form-neither : (eqb form outOfLine && (eqb (low % 8) 0 && ltb 0 low)) ≡ false → r ≡ Refused (fault envelopeFormWrong (Byte at))
         → Did (length bytes) handles 7 values values objects objects c r
         (unknownEnvelope (message t bytes handles) (W.levels (message t bytes handles) depth) row at (c .next) (c .handles))
     unfolding unknownEnvelope
     form-neither w y =
         let w′ : (eqb form outOfLine && (eqb (word bytes at 4 % 8) 0 && ltb 0 (word bytes at 4))) ≡ false = rw (← l) w in
-        rw (← q, ne-eqb _ _ n, w′, y) (did-stop (omega arith))
+        rw (← q, ne-eqb _ _ n, w′, y) did-stop

@@ -23,11 +23,11 @@ use Rattle.walk_records.specs.declared.records.Opened.{Opened}
 use Rattle.walk_records.specs.declared.envelopes.Member.{Member}
 use Rattle.walk_records.specs.declared.envelopes.Member.the-variants.{None, Some, Bad}
 use Rattle.walk_leaves.specs.Doing.{message, Did}
-use Rattle.walk_records.specs.Opening.{countOf, CountFits, Opens, OpensMember, countedAt, vectorAt, stringAt, boxAt, tableAt, unionAt, elementsOf, valueOf, envelopesOf, rawWords, sealedAt, payloadOf}
+use Rattle.walk_records.specs.Opening.{countOf, Opens, OpensMember, countedAt, vectorAt, stringAt, boxAt, tableAt, unionAt, elementsOf, valueOf, envelopesOf, rawWords, sealedAt, payloadOf}
 
 abbrev pub CountAt : (bytes : List ℕ) (optional largest at : ℕ) → Count → Type 0
 CountAt bytes optional largest at r =
-    (t : TypeTable) (handles : ℕ) → (countOf r ≡ readCount (message t bytes handles) (eqb optional 1) largest at) × CountFits r
+    (t : TypeTable) (handles : ℕ) → countOf r ≡ readCount (message t bytes handles) (eqb optional 1) largest at
 
 module _ (bytes : List ℕ) (handles depth : ℕ) (values values′ objects objects′ : List ℕ) (at : ℕ) (c : Cursor) where
   -- A count's record and the object that it leads to, whatever is walked in it, as `fields` makes it of the count and of what lies deeper.
@@ -138,5 +138,5 @@ SealDid bytes size at next used c r =
 -- The member that a union's ordinal stands for.
 abbrev pub MemberIs : (bytes members : List ℕ) (first count at : ℕ) → Member → Type 0
 MemberIs bytes members first count at (None e) = Unit {0}
-MemberIs bytes members first count at (Bad s) = Unit {0}
+MemberIs bytes members first count at (Bad f) = Unit {0}
 MemberIs bytes members first count at (Some what e) = ContentIs members first count (word bytes at 8) what

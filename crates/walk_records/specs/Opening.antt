@@ -26,26 +26,20 @@ use Rattle.walk_records.specs.declared.records.Opened.{Opened}
 use Rattle.walk_records.specs.declared.records.Opened.the-variants.{Closed, Open, Refused}
 use Rattle.walk_records.specs.declared.envelopes.Member.{Member}
 use Rattle.walk_records.specs.declared.envelopes.Member.the-variants.{None, Some, Bad}
-use Rattle.walk_leaves.specs.Doing.{faultOf, Rises, Did, Ask, Leads}
+use Rattle.walk_leaves.specs.Doing.{Rises, Did, Ask, Leads}
 
 -- ---- what the code's enums mean
 
 abbrev pub countOf : Count → ReadRecord
 countOf Absent = got 0
 countOf (Present count) = got (suc count)
-countOf (Wrong s) = wrong (faultOf s)
-
--- A refusal has a number of 32 bits.
-abbrev pub CountFits : Count → Type 0
-CountFits Absent = Unit {0}
-CountFits (Present count) = Unit {0}
-CountFits (Wrong s) = s .number < 4294967296
+countOf (Wrong f) = wrong f
 
 -- Done already, or refused; or an object is open, and what is left of the whole is `left`, which takes `need` bytes of it.
 abbrev pub Opens : (total handles grow : ℕ) (values values′ objects objects′ : List ℕ) (c : Cursor) (whole : Decoded)
     → (need : Opening → ℕ) (left : Opening → Decoded) → Opened → Type 0
 Opens total handles grow values values′ objects objects′ c whole need left (Closed e) = Did total handles grow values values′ objects objects′ c (On e) whole
-Opens total handles grow values values′ objects objects′ c whole need left (Refused s) = Did total handles grow values values′ objects objects′ c (Walked.Refused s) whole
+Opens total handles grow values values′ objects objects′ c whole need left (Refused f) = Did total handles grow values values′ objects objects′ c (Walked.Refused f) whole
 Opens total handles grow values values′ objects objects′ c whole need left (Open x) =
     Ask total handles (need x) (x .start) (x .cursor) × Leads total handles grow (need x) values values′ objects objects′ c (x .cursor) whole (left x)
     × Rises c (On (x .cursor))
@@ -53,20 +47,20 @@ Opens total handles grow values values′ objects objects′ c whole need left (
 -- An object that is open has so many elements.
 abbrev pub HasCount : (count : ℕ) → Opened → Type 0
 HasCount count (Closed e) = Unit {0}
-HasCount count (Refused s) = Unit {0}
+HasCount count (Refused f) = Unit {0}
 HasCount count (Open x) = x .count ≡ count
 
 -- An object is open only where a level is left.
 abbrev pub Reaches : (depth : ℕ) → Opened → Type 0
 Reaches depth (Closed e) = Unit {0}
-Reaches depth (Refused s) = Unit {0}
+Reaches depth (Refused f) = Unit {0}
 Reaches depth (Open x) = 0 < depth
 
 -- The same of a union's member, whose envelope is left.
 abbrev pub OpensMember : (total handles grow : ℕ) (values values′ objects objects′ : List ℕ) (c : Cursor) (whole : Decoded)
     → (left : Ordinal → Cursor → Decoded) → Member → Type 0
 OpensMember total handles grow values values′ objects objects′ c whole left (None e) = Did total handles grow values values′ objects objects′ c (On e) whole
-OpensMember total handles grow values values′ objects objects′ c whole left (Bad s) = Did total handles grow values values′ objects objects′ c (Walked.Refused s) whole
+OpensMember total handles grow values values′ objects objects′ c whole left (Bad f) = Did total handles grow values values′ objects objects′ c (Walked.Refused f) whole
 OpensMember total handles grow values values′ objects objects′ c whole left (Some what e) =
     (gave : c .next ≡ e .next) × (c .handles ≡ e .handles) × (c .objects ≡ e .objects) × (e .values ≡ c .values + 1)
     × Leads total handles grow 8 values values′ objects objects′ c e whole (left what e)

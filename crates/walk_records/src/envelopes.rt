@@ -12,20 +12,20 @@ use crate::records::Opened;
 use crate::records::Opening;
 use crate::records::deeper;
 use nesting::Ordinal;
+use rules::Fault;
 use walk_leaves::claims::claim;
 use walk_leaves::cursor::Cursor;
-use walk_leaves::cursor::Stop;
 use walk_leaves::cursor::Walked;
+use walk_leaves::cursor::fault_at;
 use walk_leaves::cursor::gave;
 use walk_leaves::cursor::refused;
-use walk_leaves::cursor::stop_at;
 use walk_leaves::scalars::numbers;
 
 // What a union's ordinal says: no member, one whose envelope follows, or a refusal.
 pub enum Member {
     None(Cursor),
     Some(Ordinal, Cursor),
-    Bad(Stop),
+    Bad(Fault),
 }
 
 // A union's ordinal: 10, 17; without a member 11, with one 18 at its envelope.
@@ -49,22 +49,22 @@ pub fn union_member(
     let envelope = words::load64(bytes, at + 8);
     if ordinal == 0 {
         if form % 2 == 0 {
-            return Member::Bad(stop_at(10, at));
+            return Member::Bad(fault_at(10, at));
         }
         let d = gave(values, 0, c);
         if envelope == 0 {
             return Member::None(d);
         }
-        return Member::Bad(stop_at(11, at));
+        return Member::Bad(fault_at(11, at));
     }
     let what = nesting::ordinal_of(members, first, count, ordinal);
     let accepted = (2 <= form) | is_known(what);
     if !accepted {
-        return Member::Bad(stop_at(17, at));
+        return Member::Bad(fault_at(17, at));
     }
     let d = gave(values, ordinal, c);
     if envelope == 0 {
-        return Member::Bad(stop_at(18, at + 8));
+        return Member::Bad(fault_at(18, at + 8));
     }
     Member::Some(what, d)
 }
@@ -210,10 +210,10 @@ pub fn known_opened(
     let flags = words::load16(bytes, at + 6);
     if size <= 4 {
         if flags != 1 {
-            return Opened::Refused(stop_at(15, at));
+            return Opened::Refused(fault_at(15, at));
         }
         if depth == 0 {
-            return Opened::Refused(stop_at(5, at));
+            return Opened::Refused(fault_at(5, at));
         }
         return Opened::Open(Opening {
             count: 1,
@@ -222,7 +222,7 @@ pub fn known_opened(
         });
     }
     if flags != 0 {
-        return Opened::Refused(stop_at(15, at));
+        return Opened::Refused(fault_at(15, at));
     }
     deeper(bytes, held, objects, depth, 5, payload, 1, size, at, c)
 }

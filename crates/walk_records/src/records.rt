@@ -5,20 +5,20 @@ ghost use lib.ListN.{length};
 ghost use Rattle.walk_leaves.specs.Doing.{Ask};
 ghost use Rattle.walk_records.specs.Opening.{HasCount, Reaches};
 ghost use Rattle.walk_records.specs.Contracts.{CountAt, DeeperOpens, CountedOpens, StringDid, BoxOpens, EnvelopesOpen, TableOpens};
+use rules::Fault;
 use walk_leaves::claims::claim;
 use walk_leaves::cursor::Cursor;
-use walk_leaves::cursor::Stop;
 use walk_leaves::cursor::Walked;
+use walk_leaves::cursor::fault_at;
 use walk_leaves::cursor::gave;
 use walk_leaves::cursor::refused;
-use walk_leaves::cursor::stop_at;
 use walk_leaves::scalars::numbers;
 
 // What a vector's or string's record says.
 pub enum Count {
     Absent,
     Present(usize),
-    Wrong(Stop),
+    Wrong(Fault),
 }
 
 // An object that is claimed and not walked yet: how many elements, where it starts, and the cursor after the claim.
@@ -31,7 +31,7 @@ pub struct Opening {
 pub enum Opened {
     Closed(Cursor),
     Open(Opening),
-    Refused(Stop),
+    Refused(Fault),
 }
 
 // A count with its presence: 9; absent 10, 11; present 12.
@@ -46,17 +46,17 @@ pub fn count_record(bytes: &[u8], optional: u32, largest: u32, at: usize) -> Cou
             if count == 0 {
                 return Count::Absent;
             }
-            return Count::Wrong(stop_at(11, at));
+            return Count::Wrong(fault_at(11, at));
         }
-        return Count::Wrong(stop_at(10, at));
+        return Count::Wrong(fault_at(10, at));
     }
     if presence == 18446744073709551615 {
         if (largest as u64) < count {
-            return Count::Wrong(stop_at(12, at));
+            return Count::Wrong(fault_at(12, at));
         }
         return Count::Present(count as usize);
     }
-    Count::Wrong(stop_at(9, at))
+    Count::Wrong(fault_at(9, at))
 }
 
 // Goes one level deeper and claims: 5 at the record, 6, 7.
@@ -76,7 +76,7 @@ pub fn deeper(
     ensures { λ r. ⌜ DeeperOpens (now (bytes .entry)) held depth (now (objects .entry)) (now (objects .exit)) at c kind row size r × HasCount count r × Reaches depth r ⌝ }
 {
     if depth == 0 {
-        return Opened::Refused(stop_at(5, at));
+        return Opened::Refused(fault_at(5, at));
     }
     let start = c.next;
     match claim(bytes, objects, kind, row, size, c) {
@@ -193,7 +193,7 @@ pub fn box_opened(
         let d = gave(values, 1, c);
         return deeper(bytes, held, objects, depth, 3, element, 1, size, at, d);
     }
-    Opened::Refused(stop_at(9, at))
+    Opened::Refused(fault_at(9, at))
 }
 
 // A table's envelopes, so many: 5, 6, 7, then 19 at the last one. Over 8,192 fit in no message.
@@ -211,10 +211,10 @@ fn envelopes_opened(
     ensures { λ r. ⌜ EnvelopesOpen (now (bytes .entry)) held depth (now (objects .entry)) (now (objects .exit)) at c row count r × HasCount count r × Reaches depth r ⌝ }
 {
     if depth == 0 {
-        return Opened::Refused(stop_at(5, at));
+        return Opened::Refused(fault_at(5, at));
     }
     if 8192 < count {
-        return Opened::Refused(stop_at(6, c.next));
+        return Opened::Refused(fault_at(6, c.next));
     }
     let envelopes = count as usize;
     match deeper(
@@ -235,7 +235,7 @@ fn envelopes_opened(
             if 0 < envelopes {
                 let last = x.start + (envelopes - 1) * 8;
                 if words::load64(bytes, last) == 0 {
-                    return Opened::Refused(stop_at(19, last));
+                    return Opened::Refused(fault_at(19, last));
                 }
             }
             Opened::Open(x)
@@ -260,11 +260,11 @@ pub fn table_opened(
     let count = words::load64(bytes, at);
     let presence = words::load64(bytes, at + 8);
     if presence == 0 {
-        return Opened::Refused(stop_at(10, at));
+        return Opened::Refused(fault_at(10, at));
     }
     if presence == 18446744073709551615 {
         let d = gave(values, count, c);
         return envelopes_opened(bytes, held, objects, depth, row, count, at, d);
     }
-    Opened::Refused(stop_at(9, at))
+    Opened::Refused(fault_at(9, at))
 }

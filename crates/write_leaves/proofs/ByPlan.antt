@@ -10,7 +10,9 @@ use borrow.Author.Tests.{lt-ltb, le-ltb, ne-eqb}
 use lib.Dec.{ltb}
 use lib.ListN.{length, drop, getD}
 use lib.Seq.{sets}
-use Rattle.rules.specs.Refusals.{notAValue}
+use Rattle.rules.specs.declared.Place.the-variants.{Index}
+use Rattle.rules.specs.declared.Fault.{Fault}
+use Rattle.rules.specs.Refusals.{fault, notAValue}
 use Rattle.rules.specs.Bytes.{bytesOf, zeros}
 use Rattle.rules.specs.Sizes.{Field, field}
 use Rattle.rules.specs.Encode as E
@@ -23,10 +25,9 @@ use Rattle.nesting.specs.Ready.{widthAllowed}
 use Rattle.nesting.proofs.Items.{itemsOf, sizeOfItems, fields-size}
 use Rattle.nesting.proofs.Plans.{parts-next, parts-none}
 use Rattle.write_leaves.specs.declared.cursor.Cursor.{Cursor}
-use Rattle.write_leaves.specs.declared.cursor.Stop.{Stop}
 use Rattle.write_leaves.specs.declared.cursor.Wrote.{Wrote}
 use Rattle.write_leaves.specs.declared.cursor.Wrote.the-variants.{On, Refused}
-use Rattle.write_leaves.specs.Putting.{stop, PutsInLine, tookOne, Stands, Ask}
+use Rattle.write_leaves.specs.Putting.{PutsInLine, tookOne, Stands, Ask}
 use Rattle.write_leaves.specs.InLine.{boolAs}
 use Rattle.write_leaves.specs.Planning.{widthAs, partsAs, PutAsked}
 use Rattle.write_leaves.proofs.InLine.{record-ended, record-unfit, record-put, took-stands, nothing-put}
@@ -46,12 +47,12 @@ module _ (values out : List ℕ) (width at : ℕ) (c : Cursor) where
   part-bool e p = rw e p
 
   module _ (other : width ≡ 0 → ⊥) (s : Stands values c) where
-    pub part-ended : {r : Wrote} → length values ≤ c .index → r ≡ Refused (stop notAValue (c .index)) → PutsInLine values out out (widthSize width) at c r (widthAs width)
+    pub part-ended : {r : Wrote} → length values ≤ c .index → r ≡ Refused (fault notAValue (Index (c .index))) → PutsInLine values out out (widthSize width) at c r (widthAs width)
     unfolding encodeWord
     part-ended h e = rw (ne-eqb width 0 other, e) (record-ended (writeNumber width anyPattern) (λ v. E.nothing) (s .left) h)
 
     module _ {v most : ℕ} (h : c .index < length values) (read : v ≡ getD values (c .index) 0) (m : most + 1 ≡ 256 ^ width) where
-      pub part-large : {r : Wrote} → most < v → r ≡ Refused (stop notAValue (c .index)) → PutsInLine values out out (widthSize width) at c r (widthAs width)
+      pub part-large : {r : Wrote} → most < v → r ≡ Refused (fault notAValue (Index (c .index))) → PutsInLine values out out (widthSize width) at c r (widthAs width)
       unfolding encodeWord writeNumber
       part-large k e =
           let large : ltb v (256 ^ width) ≡ false = le-ltb v (256 ^ width) (omega (arith, m)) in
@@ -110,7 +111,7 @@ module _ {values : List ℕ} {whole : List Field} {at : ℕ} {out : List ℕ} {c
     part-asks a = let x = p .work 0 a .asks in (omega (arith, x .inside, x .free), ask-stands x)
 
     module _ {out″ : List ℕ} {r : Wrote} (q : PutsInLine values out′ out″ (widthSize width) place d r (widthAs width)) where
-      pub part-refused : {f : Stop} → r ≡ Refused f → PutAsked values out out″ (partsSize whole) at c (Refused f) (partsAs whole)
+      pub part-refused : {f : Fault} → r ≡ Refused f → PutAsked values out out″ (partsSize whole) at c (Refused f) (partsAs whole)
       unfolding itemsOf
       part-refused z base a = item-refused (p .work base a) ((rw z at q) base)
 
@@ -143,7 +144,7 @@ module _ {values : List ℕ} {parts : List Field} {size count at : ℕ} {out : L
   values-end h base a = run-end (p .run base a) h
 
   module _ (h : 0 < left) (s : partsSize parts ≡ size) {out″ : List ℕ} {r : Wrote} (q : PutAsked values out′ out″ (partsSize parts) place d r (partsAs parts)) where
-    pub value-refused : {f : Stop} → r ≡ Refused f → PutAsked values out out″ (count * size) at c (Refused f) (E.elements (λ i. partsAs parts) 0 count)
+    pub value-refused : {f : Fault} → r ≡ Refused f → PutAsked values out out″ (count * size) at c (Refused f) (E.elements (λ i. partsAs parts) 0 count)
     value-refused z base a = let x = p .run base a in run-stopped x h ((rw s at q) base (run-asks x h)) z
 
     pub value-on : {e : Cursor} → r ≡ On e → ValuesLeft values parts size count at out c out″ e (left - 1) (place + size)

@@ -13,7 +13,8 @@ use borrow.Author.Tests.{lt-ltb, le-ltb, le-leb, lt-leb, ne-eqb, eqb-true}
 use lib.Dec.{eqb, leb, ltb}
 use lib.ListN.{length, set, take, drop, getD, length-append, length-drop, drop-of-length-le}
 use lib.Seq.{sets, length-sets, drop-cons}
-use Rattle.rules.specs.Refusals.{tooManyHandles, notAValue}
+use Rattle.rules.specs.declared.Place.the-variants.{Index}
+use Rattle.rules.specs.Refusals.{fault, tooManyHandles, notAValue}
 use Rattle.rules.specs.Bytes.{bytesOf, ones32}
 use Rattle.rules.specs.TypeTable.{TypeTable}
 use Rattle.rules.specs.Encode as E
@@ -28,7 +29,7 @@ use Rattle.nesting.specs.Ready.{widthAllowed}
 use Rattle.write_leaves.specs.declared.cursor.Cursor.{Cursor}
 use Rattle.write_leaves.specs.declared.cursor.Wrote.{Wrote}
 use Rattle.write_leaves.specs.declared.cursor.Wrote.the-variants.{On, Refused}
-use Rattle.write_leaves.specs.Putting.{stop, answer, Stored, Fit, Put, PutsInLine, tookOne, Stands, HandlesTaken}
+use Rattle.write_leaves.specs.Putting.{answer, Stored, Fit, Put, PutsInLine, tookOne, Stands, HandlesTaken}
 use Rattle.write_leaves.specs.InLine.{boolAs, handleAs, numbersAs, NoneAbove}
 use Rattle.write_leaves.proofs.Results.{after-none, after-after, then-nothing}
 
@@ -59,8 +60,8 @@ put-in-line {values} d bytes whole stored s n h i =
     }
 
 pub put-cannot : {values out out′ : List ℕ} {size at base : ℕ} {c : Cursor} (number left index : ℕ) → index ≡ length values - left
-    → number < 4294967296 → Put values out out′ size at base c (Refused (stop number index)) (cannot number left)
-put-cannot number left index e small = record { says = ap (λ (k : ℕ). Refused (stop number k)) e; stored = tt; fit = small }
+    → Put values out out′ size at base c (Refused (fault number (Index index))) (cannot number left)
+put-cannot number left index e = record { says = ap (λ (k : ℕ). Refused (fault number (Index k))) e; stored = tt; fit = tt }
 
 pub nothing-put : {values out : List ℕ} {at : ℕ} {c : Cursor} → Stands values c → PutsInLine values out out 0 at c (On c) E.nothing
 nothing-put {c} s base = put-in-line c [] refl refl s refl (omega arith) (omega arith)
@@ -80,11 +81,11 @@ module _ (count : ℕ) (c : Cursor) where
       rw t (put-in-line (record { next = c .next; handles = c .handles + count; index = c .index }) [] refl refl
       (record { free = s .free; held = h; left = s .left }) refl (omega arith) (omega arith))
 
-  pub handles-over : {r : Wrote} → 64 < c .handles + count → 0 < c .index → r ≡ Refused (stop tooManyHandles (c .index - 1)) → HandlesTaken count c r
+  pub handles-over : {r : Wrote} → 64 < c .handles + count → 0 < c .index → r ≡ Refused (fault tooManyHandles (Index (c .index - 1))) → HandlesTaken count c r
   unfolding E.takeHandles
   handles-over h k e values out at base s =
       let t : leb (c .handles + count) 64 ≡ false = lt-leb _ _ h in
-      rw (e, t) (put-cannot tooManyHandles (suc (length (drop (c .index) values))) (c .index - 1) (omega (arith, s .left, length-drop (c .index) values)) (omega arith))
+      rw (e, t) (put-cannot tooManyHandles (suc (length (drop (c .index) values))) (c .index - 1) (omega (arith, s .left, length-drop (c .index) values)))
 
 -- ---- records of one number
 
@@ -118,18 +119,18 @@ after-put {values} {out} {out′} {out″} {size} {at} {there} {base} {c} {r} {e
       };
     }
     go (wrote (x ∷ inline) outside n u rest) a s f = absurd (omega (arith, f .whole))
-    go (cannot number left) a s f = record { says = a; stored = tt; fit = f }
+    go (cannot number left) a s f = record { says = a; stored = tt; fit = tt }
 
 module _ {values out out′ : List ℕ} {size at : ℕ} {c : Cursor} (write : ℕ → WriteRecord) (continue : ℕ → Encoder) where
   pub record-ended : c .index ≤ length values → length values ≤ c .index
-      → PutsInLine values out out′ size at c (Refused (stop notAValue (c .index))) (E.recordThen write continue)
-  record-ended s h base = rw (record-short write continue values (c .index) (c .next) (c .handles) h) (put-cannot notAValue 0 (c .index) (omega arith) (omega arith))
+      → PutsInLine values out out′ size at c (Refused (fault notAValue (Index (c .index)))) (E.recordThen write continue)
+  record-ended s h base = rw (record-short write continue values (c .index) (c .next) (c .handles) h) (put-cannot notAValue 0 (c .index) (omega arith))
 
   module _ (v : ℕ) (h : c .index < length values) (read : v ≡ getD values (c .index) 0) where
-    pub record-unfit : write v ≡ unfit → PutsInLine values out out′ size at c (Refused (stop notAValue (c .index))) (E.recordThen write continue)
+    pub record-unfit : write v ≡ unfit → PutsInLine values out out′ size at c (Refused (fault notAValue (Index (c .index)))) (E.recordThen write continue)
     record-unfit w base =
         rw (record-at write continue values (c .index) (c .next) (c .handles) h, ← read, w)
-        (put-cannot notAValue (suc (length (drop (c .index + 1) values))) (c .index) (omega (arith, length-drop (c .index + 1) values)) (omega arith))
+        (put-cannot notAValue (suc (length (drop (c .index + 1) values))) (c .index) (omega (arith, length-drop (c .index + 1) values)))
 
     pub record-put : {r : Wrote} (bytes : List ℕ) → write v ≡ put bytes → length bytes ≡ size → out′ ≡ sets out at bytes → PutsInLine values out′ out′ 0 at (tookOne c) r (continue v)
         → PutsInLine values out out′ size at c r (E.recordThen write continue)
@@ -149,12 +150,12 @@ module _ (values : List ℕ) (c d : Cursor) (s : Stands values c) (e : d ≡ too
 -- ---- bools
 
 module _ (values out : List ℕ) (at : ℕ) (c : Cursor) (s : Stands values c) where
-  pub bool-ended : {r : Wrote} → length values ≤ c .index → r ≡ Refused (stop notAValue (c .index)) → PutsInLine values out out 1 at c r boolAs
+  pub bool-ended : {r : Wrote} → length values ≤ c .index → r ≡ Refused (fault notAValue (Index (c .index))) → PutsInLine values out out 1 at c r boolAs
   unfolding boolAs
   bool-ended h e = rw e (record-ended (writeNumber 1 boolPattern) (λ v. E.nothing) (s .left) h)
 
   module _ {v : ℕ} (h : c .index < length values) (read : v ≡ getD values (c .index) 0) where
-    pub bool-large : {r : Wrote} → 1 < v → r ≡ Refused (stop notAValue (c .index)) → PutsInLine values out out 1 at c r boolAs
+    pub bool-large : {r : Wrote} → 1 < v → r ≡ Refused (fault notAValue (Index (c .index))) → PutsInLine values out out 1 at c r boolAs
     unfolding boolAs writeNumber
     bool-large k e = rw e (record-unfit (writeNumber 1 boolPattern) (λ v. E.nothing) v h read (either (ltb v 256) refl))
       where
@@ -176,13 +177,13 @@ module _ (values out : List ℕ) (at : ℕ) (c : Cursor) (s : Stands values c) w
 -- ---- a handle
 
 module _ (values out : List ℕ) (optional at : ℕ) (c : Cursor) (s : Stands values c) where
-  pub handle-ended : {r : Wrote} → length values ≤ c .index → r ≡ Refused (stop notAValue (c .index))
+  pub handle-ended : {r : Wrote} → length values ≤ c .index → r ≡ Refused (fault notAValue (Index (c .index)))
       → (t : TypeTable) → PutsInLine values out out 4 at c r (handleAs t (eqb optional 1))
   unfolding handleAs
   handle-ended h e t = rw e (record-ended (writePresence 4 ones32 (eqb optional 1)) (R.afterHandle t) (s .left) h)
 
   module _ {v : ℕ} (h : c .index < length values) (read : v ≡ getD values (c .index) 0) where
-    pub handle-large : {r : Wrote} → 1 < v → r ≡ Refused (stop notAValue (c .index)) → (t : TypeTable) → PutsInLine values out out 4 at c r (handleAs t (eqb optional 1))
+    pub handle-large : {r : Wrote} → 1 < v → r ≡ Refused (fault notAValue (Index (c .index))) → (t : TypeTable) → PutsInLine values out out 4 at c r (handleAs t (eqb optional 1))
     unfolding handleAs writePresence
     handle-large k e t = rw e (record-unfit (writePresence 4 ones32 (eqb optional 1)) (R.afterHandle t) v h read (large v k))
       where
@@ -191,7 +192,7 @@ module _ (values out : List ℕ) (optional at : ℕ) (c : Cursor) (s : Stands va
         large (suc zero) k = absurd (omega arith)
         large (suc (suc v)) k = refl
 
-    pub handle-required : {r : Wrote} → v ≡ 0 → (optional ≡ 1 → ⊥) → r ≡ Refused (stop notAValue (c .index))
+    pub handle-required : {r : Wrote} → v ≡ 0 → (optional ≡ 1 → ⊥) → r ≡ Refused (fault notAValue (Index (c .index)))
         → (t : TypeTable) → PutsInLine values out out 4 at c r (handleAs t (eqb optional 1))
     unfolding handleAs writePresence
     handle-required z o e t = rw e (record-unfit (writePresence 4 ones32 (eqb optional 1)) (R.afterHandle t) v h read written)
@@ -285,12 +286,12 @@ module _ (width : ℕ) (values : List ℕ) (i next used : ℕ) where
         record-at (writeNumber width anyPattern) (λ v. E.nothing) values i next used h ∙ rw (← read, t, append-nil)
 
 module _ (values out : List ℕ) (width at : ℕ) (c : Cursor) (s : Stands values c) where
-  pub number-ended : {r : Wrote} → length values ≤ c .index → r ≡ Refused (stop notAValue (c .index)) → PutsInLine values out out width at c r (encodeWord width)
+  pub number-ended : {r : Wrote} → length values ≤ c .index → r ≡ Refused (fault notAValue (Index (c .index))) → PutsInLine values out out width at c r (encodeWord width)
   unfolding encodeWord
   number-ended h e = rw e (record-ended (writeNumber width anyPattern) (λ v. E.nothing) (s .left) h)
 
   module _ {v : ℕ} (most : ℕ) (l : most + 1 ≡ 256 ^ width) (h : c .index < length values) (read : v ≡ getD values (c .index) 0) where
-    pub number-large : {r : Wrote} → most < v → r ≡ Refused (stop notAValue (c .index)) → PutsInLine values out out width at c r (encodeWord width)
+    pub number-large : {r : Wrote} → most < v → r ≡ Refused (fault notAValue (Index (c .index))) → PutsInLine values out out width at c r (encodeWord width)
     unfolding encodeWord writeNumber
     number-large k e =
         let t : ltb v (256 ^ width) ≡ false = le-ltb v (256 ^ width) (omega arith) in
@@ -372,17 +373,17 @@ module _ (values before : List ℕ) (width count at : ℕ) (c : Cursor) (out : L
         from : (n m : ℕ) → n ≡ suc m → E.after (run .bytes) [] (words width i n (drop (c .index + i) values) (c .next) (c .handles)) ≡ cannot number left
         from n m f = rw (f, e)
 
-    pub run-ended : {r : Wrote} → length values ≤ c .index + i → r ≡ Refused (stop notAValue (c .index + i))
+    pub run-ended : {r : Wrote} → length values ≤ c .index + i → r ≡ Refused (fault notAValue (Index (c .index + i)))
         → PutsInLine values before out (count * width) at c r (numbersAs width count)
-    run-ended h e base = rw (e, halted notAValue 0 (word-short width values (c .index + i) (c .next) (c .handles) h)) (put-cannot notAValue 0 (c .index + i) (omega (arith, run .reached)) (omega arith))
+    run-ended h e base = rw (e, halted notAValue 0 (word-short width values (c .index + i) (c .next) (c .handles) h)) (put-cannot notAValue 0 (c .index + i) (omega (arith, run .reached)))
 
     module _ {v : ℕ} (h : c .index + i < length values) (read : v ≡ getD values (c .index + i) 0) where
-      pub run-large : (most : ℕ) {r : Wrote} → most + 1 ≡ 256 ^ width → most < v → r ≡ Refused (stop notAValue (c .index + i))
+      pub run-large : (most : ℕ) {r : Wrote} → most + 1 ≡ 256 ^ width → most < v → r ≡ Refused (fault notAValue (Index (c .index + i)))
           → PutsInLine values before out (count * width) at c r (numbersAs width count)
       run-large most l k e base =
           let g : 256 ^ width ≤ v = omega arith in
           rw (e, halted notAValue (suc (length (drop (c .index + i + 1) values))) (word-large width values (c .index + i) (c .next) (c .handles) v h read g))
-          (put-cannot notAValue (suc (length (drop (c .index + i + 1) values))) (c .index + i) (omega (arith, length-drop (c .index + i + 1) values)) (omega arith))
+          (put-cannot notAValue (suc (length (drop (c .index + i + 1) values))) (c .index + i) (omega (arith, length-drop (c .index + i + 1) values)))
 
       pub run-more : (most : ℕ) {out′ : List ℕ} → most + 1 ≡ 256 ^ width → v ≤ most → out′ ≡ sets out p (bytesOf width v) → Run values before width count at c out′ (i + 1) (p + width)
       unfolding E.elements E.sequence

@@ -6,10 +6,10 @@ use Prim.Native.Nat.{ℕ, _+_, _-_, _≤_}
 use native.Mathlib.Omega.{arith}
 use lib.ListN.{length, drop}
 use lib.Seq.{length-sets}
+use Rattle.rules.specs.declared.Fault.{Fault}
 use Rattle.rules.specs.Encode as E
 use Rattle.rules.specs.Encode.{Encoded, wrote, cannot, Encoder}
 use Rattle.write_leaves.specs.declared.cursor.Cursor.{Cursor}
-use Rattle.write_leaves.specs.declared.cursor.Stop.{Stop}
 use Rattle.write_leaves.specs.declared.cursor.Wrote.{Wrote}
 use Rattle.write_leaves.specs.declared.cursor.Wrote.the-variants.{On, Refused}
 use Rattle.write_leaves.specs.Putting.{answer, Stored, Fit, Put, Stands, Ask}
@@ -57,7 +57,7 @@ module _ {values out out′ : List ℕ} {size at base : ℕ} {c : Cursor} {whole
   leads-on k l p z = λ o r q. l o r (put-then k p q z)
 
   -- A part was refused, and so is the whole.
-  pub leads-halt : {part : Encoded} {first left : ℕ} {out″ : List ℕ} {f : Stop} (k : Encoder) → Leads values out out′ size at base c whole left place d (E.andThen part k)
+  pub leads-halt : {part : Encoded} {first left : ℕ} {out″ : List ℕ} {f : Fault} (k : Encoder) → Leads values out out′ size at base c whole left place d (E.andThen part k)
       → Put values out′ out″ first place base d (Refused f) part → Put values out out″ size at base c (Refused f) whole
   leads-halt {left = left} {out″ = out″} {f} k l p = l out″ (Refused f) (put-halt left k p)
 

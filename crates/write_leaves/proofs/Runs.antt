@@ -6,10 +6,10 @@ use Prim.Native.Nat.{ℕ, zero, suc, _+_, _-_, _*_, _≤_, _<_}
 use native.Mathlib.Nat.{suc-mul}
 use native.Mathlib.Omega.{arith}
 use lib.ListN.{drop}
+use Rattle.rules.specs.declared.Fault.{Fault}
 use Rattle.rules.specs.Encode as E
 use Rattle.rules.specs.Encode.{Encoded, Encoder}
 use Rattle.write_leaves.specs.declared.cursor.Cursor.{Cursor}
-use Rattle.write_leaves.specs.declared.cursor.Stop.{Stop}
 use Rattle.write_leaves.specs.declared.cursor.Wrote.{Wrote}
 use Rattle.write_leaves.specs.declared.cursor.Wrote.the-variants.{On, Refused}
 use Rattle.write_leaves.specs.Putting.{Put, Puts, Ask}
@@ -65,7 +65,7 @@ module _ {values : List ℕ} {base size : ℕ} {parts : ℕ → Encoder} where
         let room : base + (place + (size + (left - 1) * size)) ≤ d .next = rw (times-one-less left size h) at (r .asks .inside) in
         record { asks = ask-rest q ((left - 1) * size) room; leads = leads-on (E.elements parts (i + 1) (left - 1)) (unrolled h) q room }
 
-    pub run-refused : {out″ : List ℕ} {f : Stop} → 0 < left → Puts values out′ out″ size place base d (Refused f) (parts i) → Put values out out″ grow at base c (Refused f) whole
+    pub run-refused : {out″ : List ℕ} {f : Fault} → 0 < left → Puts values out′ out″ size place base d (Refused f) (parts i) → Put values out out″ grow at base c (Refused f) whole
     run-refused h q = leads-halt (E.elements parts (i + 1) (left - 1)) (unrolled h) q
 
     pub run-end : left ≤ 0 → Put values out out′ grow at base c (On d) whole
@@ -86,5 +86,5 @@ module _ {values : List ℕ} {base size : ℕ} {part : Encoder} {grow at : ℕ} 
   pub run-next : {step : ℕ} {e : Cursor} → size ≡ step → w ≡ On e → RunLeft values base size (λ k. part) grow at whole out out″ c e 0 (left - 1) (place + step)
   run-next s z = rw (← s) (run-renumbered 0 (run-on r h (rw z at q)))
 
-  pub run-stopped : {f : Stop} → w ≡ Refused f → Put values out out″ grow at base c (Refused f) whole
+  pub run-stopped : {f : Fault} → w ≡ Refused f → Put values out out″ grow at base c (Refused f) whole
   run-stopped z = run-refused r h (rw z at q)

@@ -6,11 +6,11 @@ use Prim.Native.Nat.{ℕ, _+_, _-_, _≤_}
 use native.Mathlib.Omega.{arith}
 use lib.ListN.{length, drop, length-append}
 use lib.Seq.{sets}
+use Rattle.rules.specs.declared.Fault.{Fault}
 use Rattle.rules.specs.Encode as E
 use Rattle.rules.specs.Encode.{Encoded, wrote, cannot, Encoder}
 use Rattle.words.proofs.Stores.{sets-append, sets-comm}
 use Rattle.write_leaves.specs.declared.cursor.Cursor.{Cursor}
-use Rattle.write_leaves.specs.declared.cursor.Stop.{Stop}
 use Rattle.write_leaves.specs.declared.cursor.Wrote.{Wrote}
 use Rattle.write_leaves.specs.declared.cursor.Wrote.the-variants.{On, Refused}
 use Rattle.write_leaves.specs.Putting.{answer, Stored, Fits, Fit, Put, Puts}
@@ -48,7 +48,7 @@ put-then {values} {out} {out′} {out″} {first} {second} {at} {base} {c} {d} {
             left = f .left;
           };
         }
-    rest-put i o n u rest b s (cannot number left) a t f = record { says = a; stored = tt; fit = f }
+    rest-put i o n u rest b s (cannot number left) a t f = record { says = a; stored = tt; fit = tt }
 
     go : (e : Encoded) → On d ≡ answer (length values) e → Stored out out′ at (c .next - base) e → Fit values first c e → Put values out out″ (first + second) at base c r (E.andThen e k)
     go (wrote i o n u rest) a s f =
@@ -58,10 +58,10 @@ put-then {values} {out} {out′} {out″} {first} {second} {at} {base} {c} {d} {
     go (cannot number left) a s f = absurd (let w : _≡_ {A = ℕ} 0 1 = cc in omega arith)
 
 -- A part that was refused, whatever was to follow.
-pub put-halt : {values out out′ : List ℕ} {size at base : ℕ} (whole : ℕ) {c : Cursor} {s : Stop} {e : Encoded} (k : Encoder)
-    → Put values out out′ size at base c (Refused s) e → Put values out out′ whole at base c (Refused s) (E.andThen e k)
-put-halt {values} {out} {out′} {size} {at} {base} whole {c} {s} {e} k p = go e (p .says) (p .fit)
+pub put-halt : {values out out′ : List ℕ} {size at base : ℕ} (whole : ℕ) {c : Cursor} {f : Fault} {e : Encoded} (k : Encoder)
+    → Put values out out′ size at base c (Refused f) e → Put values out out′ whole at base c (Refused f) (E.andThen e k)
+put-halt {values} {out} {out′} {size} {at} {base} whole {c} {f} {e} k p = go e (p .says)
   where
-    go : (e : Encoded) → Refused s ≡ answer (length values) e → Fit values size c e → Put values out out′ whole at base c (Refused s) (E.andThen e k)
-    go (wrote i o n u rest) a f = absurd (let w : _≡_ {A = ℕ} 0 1 = cc in omega arith)
-    go (cannot number left) a f = record { says = a; stored = tt; fit = f }
+    go : (e : Encoded) → Refused f ≡ answer (length values) e → Put values out out′ whole at base c (Refused f) (E.andThen e k)
+    go (wrote i o n u rest) a = absurd (let w : _≡_ {A = ℕ} 0 1 = cc in omega arith)
+    go (cannot number left) a = record { says = a; stored = tt; fit = tt }

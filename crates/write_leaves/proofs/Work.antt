@@ -5,6 +5,7 @@ use mathlib.Core.Path.{_≡_, refl, sym, _∙_}
 use Prim.Native.Nat.{ℕ, zero, suc, _+_, _≤_}
 use native.Mathlib.Omega.{arith}
 use lib.ListN.{drop}
+use Rattle.rules.specs.declared.Fault.{Fault}
 use Rattle.rules.specs.declared.Layout.{Layout}
 use Rattle.rules.specs.Bytes.{zeros}
 use Rattle.rules.specs.Sizes.{Field, field}
@@ -13,7 +14,6 @@ use Rattle.rules.specs.Encode.{Encoded, Encoder}
 use Rattle.rules.specs.Writer as R
 use Rattle.nesting.proofs.Items.{Item, value, gap, itemsOf, copies, sizeOfItem, sizeOfItems, into-size}
 use Rattle.write_leaves.specs.declared.cursor.Cursor.{Cursor}
-use Rattle.write_leaves.specs.declared.cursor.Stop.{Stop}
 use Rattle.write_leaves.specs.declared.cursor.Wrote.the-variants.{On, Refused}
 use Rattle.write_leaves.specs.Putting.{Put, Puts, Ask}
 use Rattle.write_leaves.proofs.Results.{after-none, then-same, then-then}
@@ -77,7 +77,7 @@ module _ {layouts : ℕ → Layout} {inner : ℕ → Encoder} {values : List ℕ
         → WorkLeft layouts inner values base grow at whole out c out″ e is (place + sizeOfItem layouts i)
     item-on q = record { asks = ask-rest q (sizeOfItems layouts is) room; leads = leads-on (run inner is) item-leads q room }
 
-    pub item-refused : {out″ : List ℕ} {f : Stop} → Puts values out′ out″ (sizeOfItem layouts i) place base d (Refused f) (runItem inner i) → Put values out out″ grow at base c (Refused f) whole
+    pub item-refused : {out″ : List ℕ} {f : Fault} → Puts values out′ out″ (sizeOfItem layouts i) place base d (Refused f) (runItem inner i) → Put values out out″ grow at base c (Refused f) whole
     item-refused q = leads-halt (run inner is) item-leads q
 
   -- The value that is next, taken apart.

@@ -2,30 +2,21 @@
 -- Assumes nothing.
 use mathlib.Core.List.{List}
 use mathlib.Core.Path.{_≡_}
-use Prim.Native.Nat.{ℕ, _+_, _-_, _≤_, _<_}
+use Prim.Native.Nat.{ℕ, _+_, _-_, _≤_}
 use lib.ListN.{length, drop}
 use lib.Seq.{sets}
-use Rattle.rules.specs.declared.Fault.{Fault}
 use Rattle.rules.specs.declared.Place.the-variants.{Index}
 use Rattle.rules.specs.Refusals.{fault}
 use Rattle.rules.specs.Encode.{Encoded, wrote, cannot, Encoder, takeHandles}
 use Rattle.write_leaves.specs.declared.cursor.Cursor.{Cursor}
-use Rattle.write_leaves.specs.declared.cursor.Stop.{Stop}
 use Rattle.write_leaves.specs.declared.cursor.Wrote.{Wrote}
 use Rattle.write_leaves.specs.declared.cursor.Wrote.the-variants.{On, Refused}
-
--- A refusal inside the walk, and the rules' fault that it stands for.
-abbrev pub stop : (number index : ℕ) → Stop
-stop number index = record { number = number; index = index }
-
-abbrev pub faultOf : Stop → Fault
-faultOf s = fault (s .number) (Index (s .index))
 
 -- The code's answer for a result of the rules, from a value list of so many numbers: the list is never cut, an index tells how
 -- far it is taken.
 abbrev pub answer : (total : ℕ) → Encoded → Wrote
 answer total (wrote inline outside next used rest) = On (record { next = next; handles = used; index = total - length rest })
-answer total (cannot number left) = Refused (stop number (total - left))
+answer total (cannot number left) = Refused (fault number (Index (total - left)))
 
 -- The output after it: what stands in line from `at` on, and the objects claimed from `free` on. What a part that was refused
 -- leaves there is not said: nothing was lent then.
@@ -43,10 +34,9 @@ pub record Fits (values : List ℕ) (size : ℕ) (c : Cursor) (inline outside : 
   pub taken : c .index ≤ length values - length rest
   pub left : rest ≡ drop (length values - length rest) values
 
--- A refusal has a number of 32 bits.
 abbrev pub Fit : (values : List ℕ) (size : ℕ) (c : Cursor) → Encoded → Type 0
 Fit values size c (wrote inline outside next used rest) = Fits values size c inline outside next used rest
-Fit values size c (cannot number left) = number < 4294967296
+Fit values size c (cannot number left) = Unit {0}
 
 -- What a part did: the output starts at the byte `base` of the message, and the part stands at `at` of the output.
 pub record Put (values out out′ : List ℕ) (size at base : ℕ) (c : Cursor) (r : Wrote) (e : Encoded) : Type 0 where

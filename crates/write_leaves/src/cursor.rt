@@ -7,7 +7,7 @@ ghost use lib.Seq.{sets};
 ghost use Rattle.rules.specs.Refusals.{fault};
 ghost use Rattle.rules.specs.Bytes.{zeros};
 ghost use Rattle.rules.specs.Encode.{takeHandles};
-ghost use Rattle.write_leaves.specs.Putting.{stop, faultOf, tookOne, Stands, HandlesTaken};
+ghost use Rattle.write_leaves.specs.Putting.{tookOne, Stands, HandlesTaken};
 use rules::Fault;
 use rules::Place;
 
@@ -18,17 +18,10 @@ pub struct Cursor {
     pub index: usize,
 }
 
-// A refusal inside the walk, whose place is a number of the value list: whole words, since an answer is loaded in the pieces that
-// it was stored in.
-pub struct Stop {
-    pub number: u64,
-    pub index: usize,
-}
-
 // A part of the value was written, or refused.
 pub enum Wrote {
     On(Cursor),
-    Refused(Stop),
+    Refused(Fault),
 }
 
 // A refusal at a number of the value list.
@@ -41,25 +34,10 @@ pub fn fault_at(number: u32, index: usize) -> Fault
     }
 }
 
-// The same inside the walk.
-pub fn stop_at(number: u64, index: usize) -> Stop
-    ensures { λ r. ⌜ r ≡ stop number index ⌝ }
+pub fn refused(number: u32, index: usize) -> Wrote
+    ensures { λ r. ⌜ r ≡ Wrote.Refused (fault number (Place.Index index)) ⌝ }
 {
-    Stop { number, index }
-}
-
-pub fn refused(number: u64, index: usize) -> Wrote
-    ensures { λ r. ⌜ r ≡ Wrote.Refused (stop number index) ⌝ }
-{
-    Wrote::Refused(stop_at(number, index))
-}
-
-// What a walk that stopped is refused with.
-pub fn fault_of(s: Stop) -> Fault
-    requires { ⌜ s .number < 4294967296 ⌝ }
-    ensures { λ r. ⌜ r ≡ faultOf s ⌝ }
-{
-    fault_at(s.number as u32, s.index)
+    Wrote::Refused(fault_at(number, index))
 }
 
 // A callee's answer, made anew from its parts: copied whole, it would be loaded in other pieces than it was stored in, which

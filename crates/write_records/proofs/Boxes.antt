@@ -7,17 +7,18 @@ use Prim.Native.Nat.{ℕ, zero, suc, _-_, _≤_, _<_}
 use native.Mathlib.Omega.{arith}
 use lib.ListN.{length, getD}
 use lib.Seq.{sets}
-use Rattle.rules.specs.Refusals.{notAValue}
+use Rattle.rules.specs.declared.Fault.{Fault}
+use Rattle.rules.specs.declared.Place.the-variants.{Index}
+use Rattle.rules.specs.Refusals.{fault, notAValue}
 use Rattle.rules.specs.Bytes.{bytesOf, ones64}
 use Rattle.rules.specs.Encode.{put, unfit}
 use Rattle.rules.specs.Records.{writePresence}
 use Rattle.rules.specs.Writer as R
 use Rattle.words.proofs.Stores.{length-bytesOf}
 use Rattle.write_leaves.specs.declared.cursor.Cursor.{Cursor}
-use Rattle.write_leaves.specs.declared.cursor.Stop.{Stop}
 use Rattle.write_records.specs.declared.records.Opened.{Opened}
 use Rattle.write_records.specs.declared.records.Opened.the-variants.{Closed, Refused}
-use Rattle.write_leaves.specs.Putting.{stop, tookOne, Stands}
+use Rattle.write_leaves.specs.Putting.{tookOne, Stands}
 use Rattle.write_records.specs.Contracts.{DeeperOpens, BoxOpens}
 use Rattle.write_leaves.proofs.InLine.{record-ended, record-unfit, record-put, nothing-put, took-stands}
 use Rattle.write_records.proofs.Openings.{ask-took, record-opens}
@@ -37,11 +38,11 @@ unfolding writePresence
 writes-present = refl
 
 module _ (values out : List ℕ) (depth at : ℕ) (c : Cursor) (size : ℕ) (s : Stands values c) where
-  pub box-ended : {f : Stop} → length values ≤ c .index → f ≡ stop notAValue (c .index) → BoxOpens values out out depth at c size (Refused f)
+  pub box-ended : {f : Fault} → length values ≤ c .index → f ≡ fault notAValue (Index (c .index)) → BoxOpens values out out depth at c size (Refused f)
   box-ended h e t element base sized ask = rw e (record-ended (writePresence 8 ones64 true) (R.afterBox t (R.levels t depth) element) (s .left) h base)
 
   module _ {v : ℕ} (h : c .index < length values) (read : v ≡ getD values (c .index) 0) where
-    pub box-large : {f : Stop} → 1 < v → f ≡ stop notAValue (c .index) → BoxOpens values out out depth at c size (Refused f)
+    pub box-large : {f : Fault} → 1 < v → f ≡ fault notAValue (Index (c .index)) → BoxOpens values out out depth at c size (Refused f)
     box-large k e t element base sized ask = rw e (record-unfit (writePresence 8 ones64 true) (R.afterBox t (R.levels t depth) element) v h read (over-one v k) base)
 
     pub box-absent : {out′ : List ℕ} {d : Cursor} → v ≡ 0 → out′ ≡ sets out at (bytesOf 8 0) → d ≡ tookOne c → BoxOpens values out out′ depth at c size (Closed d)

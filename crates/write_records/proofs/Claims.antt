@@ -61,4 +61,4 @@ object-put {values} {out} {lent} {part} {part′} {out′} {size} {at} {base} {c
             left = f .left;
           };
         }
-    go (cannot number left) a s f = record { says = a; stored = tt; fit = f }
+    go (cannot number left) a s f = record { says = a; stored = tt; fit = tt }

@@ -12,7 +12,9 @@ use borrow.Author.Tests.{lt-ltb, le-leb, lt-leb, ne-eqb}
 use lib.Dec.{eqb, leb, ltb}
 use lib.ListN.{length, drop, getD, length-append}
 use lib.Seq.{sets}
-use Rattle.rules.specs.Refusals.{notAValue}
+use Rattle.rules.specs.declared.Fault.{Fault}
+use Rattle.rules.specs.declared.Place.the-variants.{Index}
+use Rattle.rules.specs.Refusals.{fault, notAValue}
 use Rattle.rules.specs.Bytes.{bytesOf, ones64}
 use Rattle.rules.specs.Encode as E
 use Rattle.rules.specs.Encode.{Encoder, put, unfit}
@@ -21,11 +23,10 @@ use Rattle.rules.specs.Writer as R
 use Rattle.words.proofs.Stores.{sets-append, length-bytesOf}
 use Rattle.nesting.specs.Ready.{someTable}
 use Rattle.write_leaves.specs.declared.cursor.Cursor.{Cursor}
-use Rattle.write_leaves.specs.declared.cursor.Stop.{Stop}
 use Rattle.write_records.specs.declared.records.Opening.{Opening}
 use Rattle.write_records.specs.declared.records.Opened.{Opened}
 use Rattle.write_records.specs.declared.records.Opened.the-variants.{Closed, Open, Refused}
-use Rattle.write_leaves.specs.Putting.{stop, tookOne, Stands, Ask}
+use Rattle.write_leaves.specs.Putting.{tookOne, Stands, Ask}
 use Rattle.write_records.specs.Opening.{opened, claimedFrom}
 use Rattle.write_records.specs.Contracts.{HasCount, DeeperOpens, afterCount, CountedOpens, VectorOpens}
 use Rattle.write_leaves.proofs.InLine.{record-ended, record-unfit, record-put, nothing-put, took-stands}
@@ -78,11 +79,11 @@ module _ {count largest size : ℕ} (bounded : count ≤ largest) (f : Fits w32 
 -- ---- what it leads to
 
 module _ (values out : List ℕ) (depth at : ℕ) (c : Cursor) (size largest optional : ℕ) (s : Stands values c) where
-  pub counted-ended : {f : Stop} → length values ≤ c .index → f ≡ stop notAValue (c .index) → CountedOpens values out out depth at c size largest optional (Refused f)
+  pub counted-ended : {f : Fault} → length values ≤ c .index → f ≡ fault notAValue (Index (c .index)) → CountedOpens values out out depth at c size largest optional (Refused f)
   counted-ended h e t base fields ask = rw e (record-ended (writeCount (eqb optional 1) largest) (afterCount (R.levels t depth) size fields) (s .left) h base)
 
   module _ {v : ℕ} (h : c .index < length values) (read : v ≡ getD values (c .index) 0) where
-    pub counted-required : {f : Stop} → v ≡ 0 → (optional ≡ 1 → ⊥) → f ≡ stop notAValue (c .index) → CountedOpens values out out depth at c size largest optional (Refused f)
+    pub counted-required : {f : Fault} → v ≡ 0 → (optional ≡ 1 → ⊥) → f ≡ fault notAValue (Index (c .index)) → CountedOpens values out out depth at c size largest optional (Refused f)
     counted-required z o e t base fields ask =
         rw e (record-unfit (writeCount (eqb optional 1) largest) (afterCount (R.levels t depth) size fields) v h read (writes-required optional largest v z o) base)
 
@@ -96,7 +97,7 @@ module _ (values out : List ℕ) (depth at : ℕ) (c : Cursor) (size largest opt
       next : v ≡ suc (v - 1)
       next = omega arith
 
-      pub counted-over : {f : Stop} → largest < v - 1 → f ≡ stop notAValue (c .index) → CountedOpens values out out depth at c size largest optional (Refused f)
+      pub counted-over : {f : Fault} → largest < v - 1 → f ≡ fault notAValue (Index (c .index)) → CountedOpens values out out depth at c size largest optional (Refused f)
       counted-over k e t base fields ask =
           rw e (record-unfit (writeCount (eqb optional 1) largest) (afterCount (R.levels t depth) size fields) v h read (writes-over (eqb optional 1) largest v (v - 1) next k) base)
 

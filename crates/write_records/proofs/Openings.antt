@@ -9,18 +9,19 @@ use borrow.Author.Tests.{le-leb, lt-leb}
 use lib.Dec.{leb}
 use lib.ListN.{length, drop, getD, length-drop}
 use lib.Seq.{sets}
-use Rattle.rules.specs.Refusals.{messageTooLong, tooDeep}
+use Rattle.rules.specs.declared.Fault.{Fault}
+use Rattle.rules.specs.declared.Place.the-variants.{Index}
+use Rattle.rules.specs.Refusals.{fault, messageTooLong, tooDeep}
 use Rattle.rules.specs.Bytes.{roundUp, padded}
 use Rattle.rules.specs.Encode as E
 use Rattle.rules.specs.Encode.{Encoded, wrote, cannot, Encoder, WriteRecord, put}
 use Rattle.rules.specs.Writer as R
 use Rattle.write_leaves.specs.declared.cursor.Cursor.{Cursor}
-use Rattle.write_leaves.specs.declared.cursor.Stop.{Stop}
 use Rattle.write_leaves.specs.declared.cursor.Wrote.{Wrote}
 use Rattle.write_records.specs.declared.records.Opening.{Opening}
 use Rattle.write_records.specs.declared.records.Opened.{Opened}
 use Rattle.write_records.specs.declared.records.Opened.the-variants.{Closed, Open, Refused}
-use Rattle.write_leaves.specs.Putting.{stop, answer, Stored, Fit, Put, tookOne, Stands, Ask}
+use Rattle.write_leaves.specs.Putting.{answer, Stored, Fit, Put, tookOne, Stands, Ask}
 use Rattle.write_records.specs.Opening.{Opens}
 use Rattle.write_records.specs.Contracts.{HasCount, Reaches, ClaimOpens, DeeperOpens}
 use Rattle.write_leaves.proofs.InLine.{put-cannot, after-put, record-at}
@@ -39,7 +40,7 @@ put-anywhere {values} {out} {out′} {at} {base} there {c} {r} {e} p = go e (p .
     go : (e : Encoded) → r ≡ answer (length values) e → Stored out out′ there (c .next - base) e → Fit values 0 c e → Put values out out′ 0 at base c r e
     go (wrote [] outside n u rest) a s f = record { says = a; stored = s; fit = f }
     go (wrote (x ∷ inline) outside n u rest) a s f = absurd (omega (arith, f .whole))
-    go (cannot number left) a s f = record { says = a; stored = tt; fit = f }
+    go (cannot number left) a s f = record { says = a; stored = tt; fit = tt }
 
 -- 3: at the number taken last.
 pub claim-refused : (size : ℕ) (fields : Encoder) (numbers : List ℕ) (next used : ℕ) → 65536 < next + padded size
@@ -54,13 +55,13 @@ claim-goes size fields numbers next used h = let k : leb (next + padded size) 65
 
 -- A refusal at the number taken last.
 pub put-last : {values out out′ : List ℕ} {size at base : ℕ} {c : Cursor} (number i index : ℕ) → i ≡ index + 1 → i ≤ length values
-    → number < 4294967296 → Put values out out′ size at base c (Wrote.Refused (stop number index)) (cannot number (suc (length (drop i values))))
-put-last {values} number i index e within small = put-cannot number (suc (length (drop i values))) index (omega (arith, length-drop i values)) small
+    → Put values out out′ size at base c (Wrote.Refused (fault number (Index index))) (cannot number (suc (length (drop i values))))
+put-last {values} number i index e within = put-cannot number (suc (length (drop i values))) index (omega (arith, length-drop i values))
 
 module _ (size : ℕ) (c : Cursor) where
-  pub claim-over : {f : Stop} → 0 < c .index → 65536 - c .next < (size + 7) / 8 * 8 → f ≡ stop messageTooLong (c .index - 1) → ClaimOpens size c (Refused f)
+  pub claim-over : {f : Fault} → 0 < c .index → 65536 - c .next < (size + 7) / 8 * 8 → f ≡ fault messageTooLong (Index (c .index - 1)) → ClaimOpens size c (Refused f)
   claim-over i h e values out at base fields ask =
-      rw (e, claim-refused size fields (drop (c .index) values) (c .next) (c .handles) (omega (arith, padded-is size))) (put-last messageTooLong (c .index) (c .index - 1) (omega arith) (ask .left) (omega arith))
+      rw (e, claim-refused size fields (drop (c .index) values) (c .next) (c .handles) (omega (arith, padded-is size))) (put-last messageTooLong (c .index) (c .index - 1) (omega arith) (ask .left))
 
   pub claim-opened : (count : ℕ) → c .next ≤ 65536 → (size + 7) / 8 * 8 ≤ 65536 - c .next
       → ClaimOpens size c (Open (record { count = count; start = c .next; cursor = record { next = c .next + (size + 7) / 8 * 8; handles = c .handles; index = c .index } }))
@@ -75,8 +76,8 @@ module _ (size : ℕ) (c : Cursor) where
 -- ---- one level down, and a claim there
 
 module _ (depth size : ℕ) (c : Cursor) where
-  pub deeper-spent : {f : Stop} → depth ≡ 0 → 0 < c .index → f ≡ stop tooDeep (c .index - 1) → DeeperOpens depth size c (Refused f)
-  deeper-spent h i e t values out at base fields ask = rw (e, levels-spent t depth h) (put-last tooDeep (c .index) (c .index - 1) (omega arith) (ask .left) (omega arith))
+  pub deeper-spent : {f : Fault} → depth ≡ 0 → 0 < c .index → f ≡ fault tooDeep (Index (c .index - 1)) → DeeperOpens depth size c (Refused f)
+  deeper-spent h i e t values out at base fields ask = rw (e, levels-spent t depth h) (put-last tooDeep (c .index) (c .index - 1) (omega arith) (ask .left))
 
   pub deeper-down : (r : Opened) → (depth ≡ 0 → ⊥) → ClaimOpens size c r → DeeperOpens depth size c r
   deeper-down r n p t values out at base fields ask =

@@ -11,7 +11,9 @@ use borrow.Author.Tests.{lt-ltb}
 use lib.Dec.{eqb, ltb}
 use lib.ListN.{length, drop, getD}
 use lib.Seq.{sets}
-use Rattle.rules.specs.Refusals.{messageTooLong, tooDeep, notAValue}
+use Rattle.rules.specs.declared.Fault.{Fault}
+use Rattle.rules.specs.declared.Place.the-variants.{Index}
+use Rattle.rules.specs.Refusals.{fault, messageTooLong, tooDeep, notAValue}
 use Rattle.rules.specs.Bytes.{bytesOf, ones64}
 use Rattle.rules.specs.TypeTable.{TypeTable, eightByteEnvelopes, Content}
 use Rattle.rules.specs.Encode as E
@@ -22,11 +24,10 @@ use Rattle.rules.specs.Writer as R
 use Rattle.nesting.proofs.Edition.{envelope-size, content-written}
 use Rattle.rules.proofs.Bytes.{padded-multiple}
 use Rattle.write_leaves.specs.declared.cursor.Cursor.{Cursor}
-use Rattle.write_leaves.specs.declared.cursor.Stop.{Stop}
 use Rattle.write_records.specs.declared.records.Opening.{Opening}
 use Rattle.write_records.specs.declared.records.Opened.{Opened}
 use Rattle.write_records.specs.declared.records.Opened.the-variants.{Refused}
-use Rattle.write_leaves.specs.Putting.{stop, tookOne, Stands}
+use Rattle.write_leaves.specs.Putting.{tookOne, Stands}
 use Rattle.write_records.specs.Opening.{Opens}
 use Rattle.write_records.specs.Contracts.{HasCount, ClaimOpens, TableOpens}
 use Rattle.write_leaves.proofs.InLine.{record-ended}
@@ -51,7 +52,7 @@ module _ (t : TypeTable) (depth : ℕ) (content : ℕ → Content) (v : ℕ) (nu
   after-down edition n = rw (levels-down t depth n, envelope-size edition, content-written edition)
 
 module _ (values out : List ℕ) (depth at : ℕ) (c : Cursor) (s : Stands values c) where
-  pub table-ended : {f : Stop} → length values ≤ c .index → f ≡ stop notAValue (c .index) → TableOpens values out out depth at c (Refused f)
+  pub table-ended : {f : Fault} → length values ≤ c .index → f ≡ fault notAValue (Index (c .index)) → TableOpens values out out depth at c (Refused f)
   table-ended h e t content base edition ask =
       rw e (record-ended writeTable (R.afterTable t (R.levels t depth) content) (s .left) h base)
 
@@ -64,13 +65,13 @@ module _ (values out : List ℕ) (depth at : ℕ) (c : Cursor) (s : Stands value
     table-leads t content base sizes fields r opens =
         record-opens values out whole 16 at base c writeTable (R.afterTable t (R.levels t depth) content) v h read (countBytes v ones64) (writes-table v f) (count-length v ones64) (count-stored out at v ones64 p q) at sizes fields r opens
 
-    pub table-spent : {g : Stop} → depth ≡ 0 → g ≡ stop tooDeep (c .index) → TableOpens values out whole depth at c (Refused g)
+    pub table-spent : {g : Fault} → depth ≡ 0 → g ≡ fault tooDeep (Index (c .index)) → TableOpens values out whole depth at c (Refused g)
     table-spent {g} z e t content base edition ask =
         table-leads t content base (λ x. 0) (λ x. E.nothing) (Refused g)
-        (rw (e, after-spent t depth content v (drop (c .index + 1) values) (c .next) (c .handles) z) (put-last tooDeep (c .index + 1) (c .index) refl (omega arith) (omega arith)))
+        (rw (e, after-spent t depth content v (drop (c .index + 1) values) (c .next) (c .handles) z) (put-last tooDeep (c .index + 1) (c .index) refl (omega arith)))
 
     module _ (down : depth ≡ 0 → ⊥) where
-      pub table-over : {g : Stop} → 8192 < v → g ≡ stop messageTooLong (c .index) → TableOpens values out whole depth at c (Refused g)
+      pub table-over : {g : Fault} → 8192 < v → g ≡ fault messageTooLong (Index (c .index)) → TableOpens values out whole depth at c (Refused g)
       table-over {g} k e t content base edition ask =
           table-leads t content base (λ x. 0) (λ x. E.nothing) (Refused g)
           (rw (
@@ -78,7 +79,7 @@ module _ (values out : List ℕ) (depth at : ℕ) (c : Cursor) (s : Stands value
             after-down t depth content v (drop (c .index + 1) values) (c .next) (c .handles) edition down,
             claim-refused (v * 8) (envelopes t (R.levels t (depth - 1)) content v) (drop (c .index + 1) values) (c .next) (c .handles) (omega (arith, padded-multiple v)),
           )
-          (put-last messageTooLong (c .index + 1) (c .index) refl (omega arith) (omega arith)))
+          (put-last messageTooLong (c .index + 1) (c .index) refl (omega arith)))
 
       pub table-opened : {d : Cursor} (r : Opened) → d ≡ tookOne c → ClaimOpens (v * 8) d r → HasCount v r → TableOpens values out whole depth at c r
       table-opened r e opens has t content base edition ask =

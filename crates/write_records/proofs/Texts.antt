@@ -10,7 +10,10 @@ use mir.Val.{Fits}
 use lib.Dec.{eqb, leb}
 use lib.ListN.{length, drop, take, length-append, length-drop}
 use lib.Seq.{sets}
-use Rattle.rules.specs.Refusals.{notAValue, messageTooLong, tooDeep}
+use Rattle.rules.specs.declared.Fault.{Fault}
+use Rattle.rules.specs.declared.Place.{Place}
+use Rattle.rules.specs.declared.Place.the-variants.{Row, Byte, Index, Amount}
+use Rattle.rules.specs.Refusals.{fault, notAValue, messageTooLong, tooDeep}
 use Rattle.rules.specs.Bytes.{zeros, padded}
 use Rattle.rules.specs.Text.{isUtf8}
 use Rattle.rules.specs.TypeTable.{TypeTable}
@@ -22,13 +25,12 @@ use Rattle.rules.specs.Writer as R
 use Rattle.rules.proofs.Bytes.{padded-above}
 use Rattle.nesting.specs.Ready.{someTable}
 use Rattle.write_leaves.specs.declared.cursor.Cursor.{Cursor}
-use Rattle.write_leaves.specs.declared.cursor.Stop.{Stop}
 use Rattle.write_leaves.specs.declared.cursor.Wrote.{Wrote}
 use Rattle.write_leaves.specs.declared.cursor.Wrote.the-variants as W
 use Rattle.write_records.specs.declared.records.Opening.{Opening}
 use Rattle.write_records.specs.declared.records.Opened.{Opened}
 use Rattle.write_records.specs.declared.records.Opened.the-variants.{Closed, Open, Refused}
-use Rattle.write_leaves.specs.Putting.{stop, answer, Stored, Fit, Put, PutsInLine, Stands, Ask}
+use Rattle.write_leaves.specs.Putting.{answer, Stored, Fit, Put, PutsInLine, Stands, Ask}
 use Rattle.write_records.specs.Opening.{opened, claimedFrom, ObjectPut, Opens}
 use Rattle.write_leaves.specs.InLine.{numbersAs}
 use Rattle.write_records.specs.Contracts.{afterCount, CountedOpens, StringPuts}
@@ -40,15 +42,21 @@ use Rattle.write_records.proofs.Counts.{counted-stands}
 
 abbrev numberOf : Wrote → ℕ
 numberOf (W.On d) = 1
-numberOf (W.Refused s) = s .number
+numberOf (W.Refused f) = f .number
+
+abbrev indexIn : Place → ℕ
+indexIn (Index i) = i
+indexIn (Byte i) = i
+indexIn (Row i) = i
+indexIn (Amount i) = i
 
 abbrev indexOf : Wrote → ℕ
 indexOf (W.On d) = d .index
-indexOf (W.Refused s) = s .index
+indexOf (W.Refused f) = indexIn (f .place)
 
 abbrev onOf : Wrote → ℕ
 onOf (W.On d) = 1
-onOf (W.Refused s) = 0
+onOf (W.Refused f) = 0
 
 -- ---- the object
 
@@ -81,12 +89,12 @@ object-here {values} {out} {mid} {out′} {size} {base} {c} {r} e within p z = g
             left = f .left;
           };
         }
-    go (cannot number left) a s f = record { says = a; stored = tt; fit = f }
+    go (cannot number left) a s f = record { says = a; stored = tt; fit = tt }
 
 -- ---- the test
 
 module _ {values out mid : List ℕ} {size at base : ℕ} {c : Cursor} where
-  checked-cannot : {f : Stop} (e : Encoded) → Put values out mid size at base c (W.Refused f) e
+  checked-cannot : {f : Fault} (e : Encoded) → Put values out mid size at base c (W.Refused f) e
       → Put values out mid size at base c (W.Refused f) (E.checkedGoes isUtf8 (drop (c .index) values) e)
   checked-cannot (wrote inline outside n u rest) p = absurd (let z : _≡_ {A = ℕ} 0 1 = ap onOf (p .says) in omega arith)
   checked-cannot (cannot number left) p = p
@@ -106,10 +114,10 @@ module _ {values out mid : List ℕ} {size at base : ℕ} {c : Cursor} where
     checked-holds (cannot number left) p h = absurd (let z : _≡_ {A = ℕ} 1 0 = ap onOf (p .says) in omega arith)
 
     checked-fails : (e : Encoded) → Put values out mid size at base c (W.On d) e → isUtf8 (take (d .index - c .index) (drop (c .index) values)) ≡ false
-        → Put values out mid size at base c (W.Refused (stop notAValue (length values - suc (length (drop (c .index) values))))) (E.checkedGoes isUtf8 (drop (c .index) values) e)
+        → Put values out mid size at base c (W.Refused (fault notAValue (Index (length values - suc (length (drop (c .index) values)))))) (E.checkedGoes isUtf8 (drop (c .index) values) e)
     checked-fails (wrote inline outside n u rest) p h =
         let k : isUtf8 (take (length (drop (c .index) values) - length rest) (drop (c .index) values)) ≡ false = rw (took-these inline outside n u rest p) at h in
-        rw k (record { says = refl; stored = tt; fit = omega arith })
+        rw k (record { says = refl; stored = tt; fit = tt })
     checked-fails (cannot number left) p h = absurd (let z : _≡_ {A = ℕ} 1 0 = ap onOf (p .says) in omega arith)
 
     done-within : (e : Encoded) → Put values out mid size at base c (W.On d) e → (c .index ≤ d .index) × (d .index ≤ length values)
@@ -126,24 +134,24 @@ module _ (total next used mark : ℕ) (below : E.Deeper) (write : ℕ → WriteR
   marked count rows b numbers n u = cannot 0 (suc (length numbers))
 
   marks-down : (below : E.Deeper) (bytes : List ℕ) (count : ℕ) (numbers : List ℕ)
-      → W.Refused (stop 0 mark) ≡ answer total (E.after bytes [] (E.oneDeeper below (λ rows b. E.claim (count * 1) (marked count rows b)) numbers next used))
+      → W.Refused (fault 0 (Index mark)) ≡ answer total (E.after bytes [] (E.oneDeeper below (λ rows b. E.claim (count * 1) (marked count rows b)) numbers next used))
       → mark ≡ total - suc (length numbers)
   unfolding E.claim
   marks-down E.spent bytes count numbers e = absurd (let z : _≡_ {A = ℕ} 0 tooDeep = ap numberOf e in omega arith)
   marks-down (E.deeper rows b) bytes count numbers e = go (leb (next + padded (count * 1)) 65536) e
     where
-      go : (space : Bool) → W.Refused (stop 0 mark) ≡ answer total (E.after bytes [] (E.require space messageTooLong (suc (length numbers)) (cannot 0 (suc (length numbers)))))
+      go : (space : Bool) → W.Refused (fault 0 (Index mark)) ≡ answer total (E.after bytes [] (E.require space messageTooLong (suc (length numbers)) (cannot 0 (suc (length numbers)))))
           → mark ≡ total - suc (length numbers)
       go true e = ap indexOf e
       go false e = absurd (let z : _≡_ {A = ℕ} 0 messageTooLong = ap numberOf e in omega arith)
 
-  marks-record : (w : WriteRecord) (v : ℕ) (numbers : List ℕ) → W.Refused (stop 0 mark) ≡ answer total (E.recordGoes w (suc (length numbers)) (afterCount below 1 marked v numbers next used))
+  marks-record : (w : WriteRecord) (v : ℕ) (numbers : List ℕ) → W.Refused (fault 0 (Index mark)) ≡ answer total (E.recordGoes w (suc (length numbers)) (afterCount below 1 marked v numbers next used))
       → mark ≡ total - suc (length numbers)
   marks-record unfit v numbers e = absurd (let z : _≡_ {A = ℕ} 0 notAValue = ap numberOf e in omega arith)
   marks-record (put bytes) zero numbers e = absurd (let z : _≡_ {A = ℕ} 0 1 = ap numberOf e in omega arith)
   marks-record (put bytes) (suc count) numbers e = marks-down below bytes count numbers e
 
-  marks : (numbers : List ℕ) → W.Refused (stop 0 mark) ≡ answer total (E.recordThen write (afterCount below 1 marked) numbers next used) → mark ≡ total - length numbers
+  marks : (numbers : List ℕ) → W.Refused (fault 0 (Index mark)) ≡ answer total (E.recordThen write (afterCount below 1 marked) numbers next used) → mark ≡ total - length numbers
   unfolding E.recordThen
   marks [] e = absurd (let z : _≡_ {A = ℕ} 0 notAValue = ap numberOf e in omega arith)
   marks (v ∷ numbers) e = marks-record (write v) v numbers e
@@ -168,7 +176,7 @@ module _ (values out half : List ℕ) (depth at base : ℕ) (c : Cursor) (larges
   pub string-closed : {d : Cursor} → r ≡ Closed d → StringPuts values out half depth at c base largest optional (W.On d)
   string-closed e t = rw e at (string-opens t)
 
-  pub string-refused : {f : Stop} → r ≡ Refused f → StringPuts values out half depth at c base largest optional (W.Refused f)
+  pub string-refused : {f : Fault} → r ≡ Refused f → StringPuts values out half depth at c base largest optional (W.Refused f)
   string-refused e t = rw e at (string-opens t)
 
   module _ {x : Opening} (is-open : r ≡ Open x) where
@@ -206,7 +214,7 @@ module _ (values out half : List ℕ) (depth at base : ℕ) (c : Cursor) (larges
     judged =
         let mark : ℕ = length values - suc (length (drop (x .cursor .index) values)) in
         let o = rw is-open at (opens someTable base (λ count rows b numbers n u. cannot 0 (suc (length numbers))) ask) in
-        let p = o .3 half (W.Refused (stop 0 mark)) (record { says = refl; stored = tt; fit = omega arith }) in
+        let p = o .3 half (W.Refused (fault 0 (Index mark))) (record { says = refl; stored = tt; fit = tt }) in
         let m : mark ≡ length values - length (drop (c .index) values) = marks (length values) (c .next) (c .handles) mark (R.levels someTable depth) (writeCount (eqb optional 1) largest) (drop (c .index) values) (p .says) in
         omega (arith, m, length-drop (c .index) values, ask .left)
 
@@ -224,19 +232,18 @@ module _ (values out half : List ℕ) (depth at base : ℕ) (c : Cursor) (larges
       unfolding E.checked E.elements
       close {last} {w} p z t = let o = rw is-open at (string-opens t) in o .3 last w (object-here (E.checkedGoes isUtf8 (drop (x .cursor .index) values) run) string-base p z)
 
-      halted : {last : List ℕ} {f : Stop} → s ≡ W.Refused f → StringPuts values out last depth at c base largest optional (W.Refused f)
+      halted : {last : List ℕ} {f : Fault} → s ≡ W.Refused f → StringPuts values out last depth at c base largest optional (W.Refused f)
       unfolding E.checked E.elements
       halted {last} {f} e t =
           let p : Put values half mid (x .count * 1) (x .start - base) base (opened (x .count * 1) (claimedFrom x)) (W.Refused f) run = rw e at ran in
           let o = rw is-open at (string-opens t) in
-          o .3 last (W.Refused f) (refused-object (E.checkedGoes isUtf8 (drop (x .cursor .index) values) run) (checked-cannot run p .says) (checked-cannot run p .fit))
+          o .3 last (W.Refused f) (refused-object (E.checkedGoes isUtf8 (drop (x .cursor .index) values) run) (checked-cannot run p .says))
         where
-          refused-object : (e : Encoded) → W.Refused f ≡ answer (length values) e → Fit values (x .count * 1) (opened (x .count * 1) (claimedFrom x)) e
-              → Put values half last 0 0 base (claimedFrom x) (W.Refused f) (E.asObject (x .count * 1) e)
-          refused-object (wrote inline outside n u rest) a k = absurd (let z : _≡_ {A = ℕ} 0 1 = ap onOf a in omega arith)
-          refused-object (cannot number left) a k = record { says = a; stored = tt; fit = k }
+          refused-object : (e : Encoded) → W.Refused f ≡ answer (length values) e → Put values half last 0 0 base (claimedFrom x) (W.Refused f) (E.asObject (x .count * 1) e)
+          refused-object (wrote inline outside n u rest) a = absurd (let z : _≡_ {A = ℕ} 0 1 = ap onOf a in omega arith)
+          refused-object (cannot number left) a = record { says = a; stored = tt; fit = tt }
 
-      pub string-halted : {f : Stop} → s ≡ W.Refused f → StringPuts values out mid depth at c base largest optional (W.Refused f)
+      pub string-halted : {f : Fault} → s ≡ W.Refused f → StringPuts values out mid depth at c base largest optional (W.Refused f)
       string-halted e = halted e
 
       module _ {d : Cursor} (on : s ≡ W.On d) where
@@ -260,5 +267,5 @@ module _ (values out half : List ℕ) (depth at base : ℕ) (c : Cursor) (larges
           pub string-put : b ≡ true → StringPuts values out last depth at c base largest optional (W.On d)
           string-put h = close (checked-holds run ran-on (sym test ∙ h)) filled
 
-          pub string-unfit : {w : Wrote} → b ≡ false → w ≡ W.Refused (stop notAValue (c .index)) → StringPuts values out last depth at c base largest optional w
-          string-unfit {w} h e = rw e (subst (λ (k : ℕ). StringPuts values out last depth at c base largest optional (W.Refused (stop notAValue k))) judged (close (checked-fails run ran-on (sym test ∙ h)) filled))
+          pub string-unfit : {w : Wrote} → b ≡ false → w ≡ W.Refused (fault notAValue (Index (c .index))) → StringPuts values out last depth at c base largest optional w
+          string-unfit {w} h e = rw e (subst (λ (k : ℕ). StringPuts values out last depth at c base largest optional (W.Refused (fault notAValue (Index k)))) judged (close (checked-fails run ran-on (sym test ∙ h)) filled))

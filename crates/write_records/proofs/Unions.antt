@@ -11,7 +11,9 @@ use borrow.Author.Tests.{eq-eqb, ne-eqb, lt-ltb, leb-true, leb-false, not-true, 
 use lib.Dec.{leb, ltb, eqb}
 use lib.ListN.{length, drop, getD}
 use lib.Seq.{sets}
-use Rattle.rules.specs.Refusals.{if_then_else_, notAValue, ordinalUnknown}
+use Rattle.rules.specs.declared.Fault.{Fault}
+use Rattle.rules.specs.declared.Place.the-variants.{Index}
+use Rattle.rules.specs.Refusals.{if_then_else_, fault, notAValue, ordinalUnknown}
 use Rattle.rules.specs.Bytes.{bytesOf, zeros}
 use Rattle.rules.specs.TypeTable.{TypeTable, Content, contentOf}
 use Rattle.rules.specs.Encode as E
@@ -24,12 +26,11 @@ use Rattle.nesting.specs.Ordinals.{ordinalIs, ContentIs, halved, Rising}
 use Rattle.nesting.proofs.Edition.{envelope-size, content-written}
 use Rattle.words.proofs.Stores.{sets-append, length-bytesOf}
 use Rattle.write_leaves.specs.declared.cursor.Cursor.{Cursor}
-use Rattle.write_leaves.specs.declared.cursor.Stop.{Stop}
 use Rattle.write_leaves.specs.declared.cursor.Wrote.{Wrote}
 use Rattle.write_leaves.specs.declared.cursor.Wrote.the-variants as W
 use Rattle.write_records.specs.declared.envelopes.Member.{Member}
 use Rattle.write_records.specs.declared.envelopes.Member.the-variants.{None, Some, Bad}
-use Rattle.write_leaves.specs.Putting.{stop, answer, Stored, Fit, Put, Puts, tookOne, Stands, Ask}
+use Rattle.write_leaves.specs.Putting.{answer, Stored, Fit, Put, Puts, tookOne, Stands, Ask}
 use Rattle.write_records.specs.Contracts.{OpensMember, UnionOpens, MemberIs}
 use Rattle.write_leaves.proofs.InLine.{put-in-line, record-at, record-ended, record-unfit, took-stands}
 use Rattle.write_leaves.proofs.Together.{put-then}
@@ -39,12 +40,12 @@ abbrev unionRecord : (content : ℕ → Content) (form : ℕ) → ℕ → WriteR
 unionRecord content form = writeNumber 8 (ordinalPattern content (eqb (form % 2) 1) (eqb (form / 2) 1))
 
 module _ (members values out : List ℕ) (at : ℕ) (c : Cursor) (first count form : ℕ) (s : Stands values c) where
-  pub union-ended : {f : Stop} → length values ≤ c .index → f ≡ stop notAValue (c .index) → UnionOpens members values out out at c first count form (Bad f)
+  pub union-ended : {f : Fault} → length values ≤ c .index → f ≡ fault notAValue (Index (c .index)) → UnionOpens members values out out at c first count form (Bad f)
   union-ended h e t depth base edition same ask =
       rw e (record-ended (unionRecord (contentOf t first count) form) (R.afterUnion t (R.levels t depth) (contentOf t first count)) (s .left) h base)
 
   module _ {v : ℕ} (h : c .index < length values) (read : v ≡ getD values (c .index) 0) where
-    unfit-bad : {f : Stop} → ((t : TypeTable) → t .members ≡ members → unionRecord (contentOf t first count) form v ≡ unfit) → f ≡ stop notAValue (c .index)
+    unfit-bad : {f : Fault} → ((t : TypeTable) → t .members ≡ members → unionRecord (contentOf t first count) form v ≡ unfit) → f ≡ fault notAValue (Index (c .index))
         → UnionOpens members values out out at c first count form (Bad f)
     unfit-bad w e t depth base edition same ask =
         rw e (record-unfit (unionRecord (contentOf t first count) form) (R.afterUnion t (R.levels t depth) (contentOf t first count)) v h read (w t same) base)
@@ -52,7 +53,7 @@ module _ (members values out : List ℕ) (at : ℕ) (c : Cursor) (first count fo
     -- ---- without a member
 
     module _ (z : v ≡ 0) where
-      pub union-required : {f : Stop} → form % 2 ≡ 0 → f ≡ stop notAValue (c .index) → UnionOpens members values out out at c first count form (Bad f)
+      pub union-required : {f : Fault} → form % 2 ≡ 0 → f ≡ fault notAValue (Index (c .index)) → UnionOpens members values out out at c first count form (Bad f)
       unfolding writeNumber
       union-required o e = unfit-bad (λ t same. rw (z, ne-eqb (form % 2) 1 (λ q. omega arith))) e
 
@@ -87,7 +88,7 @@ module _ (members values out : List ℕ) (at : ℕ) (c : Cursor) (first count fo
       written : (t : TypeTable) → t .members ≡ members → unionRecord (contentOf t first count) form v ≡ writeIf (unless ordinalUnknown (leb 2 form || known)) (put (bytesOf 8 v))
       written t same = judged (contentOf t first count) (eqb (form % 2) 1) (eqb (form / 2) 1) v n (fits .fits) ∙ rw (← (is t same), ← k, accepts form known small)
 
-      pub union-unknown : {f : Stop} → not (leb 2 form || known) ≡ true → f ≡ stop notAValue (c .index) → UnionOpens members values out out at c first count form (Bad f)
+      pub union-unknown : {f : Fault} → not (leb 2 form || known) ≡ true → f ≡ fault notAValue (Index (c .index)) → UnionOpens members values out out at c first count form (Bad f)
       union-unknown a e = unfit-bad (λ t same. written t same ∙ rw (not-true (leb 2 form || known) a)) e
 
       -- The envelope follows the ordinal.

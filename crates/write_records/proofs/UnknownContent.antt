@@ -10,7 +10,9 @@ use borrow.Author.Tests.{lt-ltb, le-ltb, le-leb, lt-leb, ne-eqb}
 use lib.Dec.{eqb, leb, ltb}
 use lib.ListN.{length, drop, getD, length-append, length-drop, drop-of-length-le}
 use lib.Seq.{sets, drop-cons}
-use Rattle.rules.specs.Refusals.{if_then_else_, messageTooLong, tooDeep, notAValue}
+use Rattle.rules.specs.declared.Fault.{Fault}
+use Rattle.rules.specs.declared.Place.the-variants.{Index}
+use Rattle.rules.specs.Refusals.{if_then_else_, fault, messageTooLong, tooDeep, notAValue}
 use Rattle.rules.specs.TypeTable.{TypeTable}
 use Rattle.rules.specs.Writer as R
 use Rattle.rules.specs.Bytes.{bytesOf, zeros, padded}
@@ -19,10 +21,9 @@ use Rattle.rules.specs.Encode.{Encoded, wrote, cannot, Encoder}
 use Rattle.rules.specs.Envelope.{envelopeBytes, handleNumberFits, wordFits, encodeWord, writeWords, byteNumberFits, writeUnknownInLine, writeUnknownOutOfLine, writeUnknown}
 use Rattle.words.proofs.Stores.{sets-append}
 use Rattle.write_leaves.specs.declared.cursor.Cursor.{Cursor}
-use Rattle.write_leaves.specs.declared.cursor.Stop.{Stop}
 use Rattle.write_leaves.specs.declared.cursor.Wrote.{Wrote}
 use Rattle.write_leaves.specs.declared.cursor.Wrote.the-variants.{On, Refused}
-use Rattle.write_leaves.specs.Putting.{stop, answer, Stored, Fit, Put, Puts, PutsInLine, tookOne, Stands, HandlesTaken, Ask}
+use Rattle.write_leaves.specs.Putting.{answer, Stored, Fit, Put, Puts, PutsInLine, tookOne, Stands, HandlesTaken, Ask}
 use Rattle.write_leaves.specs.InLine.{numbersAs}
 use Rattle.write_records.specs.Contracts.{UnknownPuts}
 use Rattle.write_leaves.proofs.InLine.{put-in-line, put-cannot, took-stands, handles-taken, handles-over}
@@ -60,7 +61,7 @@ put-later {values} {out} {out′} {size} {at} {base} {c} {r} {e} p = go e (p .sa
         left = f .left;
       };
     }
-    go (cannot number left) a s f = record { says = a; stored = tt; fit = f }
+    go (cannot number left) a s f = record { says = a; stored = tt; fit = tt }
 
 -- ---- handles
 
@@ -93,7 +94,7 @@ handles-held {values} count c d s p = go (leb (c .handles + count) 64) refl
         }
     go false t =
         let q′ = rw t at q in
-        let says : On d ≡ Refused (stop 4 (length values - suc (length (drop (c .index) values)))) = q′ .says in
+        let says : On d ≡ Refused (fault 4 (Index (length values - suc (length (drop (c .index) values))))) = q′ .says in
         absurd (let w : _≡_ {A = ℕ} 0 1 = cc in omega arith)
 
 -- ---- unknown content in line
@@ -113,18 +114,18 @@ after-none (wrote inline outside next used rest) = refl
 after-none (cannot number left) = refl
 
 module _ (values out : List ℕ) (at : ℕ) (c : Cursor) (s : Stands values c) where
-  pub in-line-ended : {r : Wrote} → length values ≤ c .index → r ≡ Refused (stop notAValue (c .index)) → PutsInLine values out out 8 at c r writeUnknownInLine
+  pub in-line-ended : {r : Wrote} → length values ≤ c .index → r ≡ Refused (fault notAValue (Index (c .index))) → PutsInLine values out out 8 at c r writeUnknownInLine
   unfolding writeUnknownInLine
   in-line-ended h e base =
-      rw (e, number-short handleNumberFits handlesNext values (c .index) (c .next) (c .handles) h) (put-cannot notAValue 0 (c .index) (omega (arith, s .left)) (omega arith))
+      rw (e, number-short handleNumberFits handlesNext values (c .index) (c .next) (c .handles) h) (put-cannot notAValue 0 (c .index) (omega (arith, s .left)))
 
   module _ {v : ℕ} (h : c .index < length values) (read : v ≡ getD values (c .index) 0) where
-    pub in-line-many : {r : Wrote} → 65535 < v → r ≡ Refused (stop notAValue (c .index)) → PutsInLine values out out 8 at c r writeUnknownInLine
+    pub in-line-many : {r : Wrote} → 65535 < v → r ≡ Refused (fault notAValue (Index (c .index))) → PutsInLine values out out 8 at c r writeUnknownInLine
     unfolding writeUnknownInLine
     in-line-many k e base =
         let t : ltb v 65536 ≡ false = le-ltb v 65536 (omega arith) in
         rw (e, number-at handleNumberFits handlesNext values (c .index) (c .next) (c .handles) h, ← read, t)
-        (put-cannot notAValue (suc (length (drop (c .index + 1) values))) (c .index) (omega (arith, length-drop (c .index + 1) values)) (omega arith))
+        (put-cannot notAValue (suc (length (drop (c .index + 1) values))) (c .index) (omega (arith, length-drop (c .index + 1) values)))
 
     module _ {d : Cursor} (k : v ≤ 65535) (e : d ≡ tookOne c) where
       goes : writeUnknownInLine (drop (c .index) values) (c .next) (c .handles) ≡ E.andThen (E.takeHandles v (drop (c .index + 1) values) (c .next) (c .handles)) (wordNext v)
@@ -133,7 +134,7 @@ module _ (values out : List ℕ) (at : ℕ) (c : Cursor) (s : Stands values c) w
           let t : ltb v 65536 ≡ true = lt-ltb v 65536 (omega arith) in
           rw (number-at handleNumberFits handlesNext values (c .index) (c .next) (c .handles) h, ← read, t)
 
-      pub in-line-handles-over : {f : Stop} {y : Wrote} → HandlesTaken v d y → y ≡ Refused f → PutsInLine values out out 8 at c (Refused f) writeUnknownInLine
+      pub in-line-handles-over : {f : Fault} {y : Wrote} → HandlesTaken v d y → y ≡ Refused f → PutsInLine values out out 8 at c (Refused f) writeUnknownInLine
       in-line-handles-over {f} p x base =
           let q : HandlesTaken v (tookOne c) (Refused f) = rw (e, x) at p in
           rw goes (put-later (put-halt 8 (wordNext v) (q values out at base (took-stands s h))))
@@ -148,17 +149,17 @@ module _ (values out : List ℕ) (at : ℕ) (c : Cursor) (s : Stands values c) w
         stands : Stands values f
         stands = rw (held .moved) (record { free = s .free; held = held .few; left = omega arith })
 
-        pub in-line-wordless : {r : Wrote} → length values ≤ f .index → r ≡ Refused (stop notAValue (f .index)) → PutsInLine values out out 8 at c r writeUnknownInLine
+        pub in-line-wordless : {r : Wrote} → length values ≤ f .index → r ≡ Refused (fault notAValue (Index (f .index))) → PutsInLine values out out 8 at c r writeUnknownInLine
         in-line-wordless l a base =
             rw (a, on, number-short wordFits (λ word. E.inlineBytes (envelopeBytes word v 1)) values (f .index) (f .next) (f .handles) l)
-            (put-cannot notAValue 0 (f .index) (omega (arith, stands .left)) (omega arith))
+            (put-cannot notAValue 0 (f .index) (omega (arith, stands .left)))
 
         module _ {w : ℕ} (l : f .index < length values) (reads : w ≡ getD values (f .index) 0) where
-          pub in-line-large : {r : Wrote} → 4294967295 < w → r ≡ Refused (stop notAValue (f .index)) → PutsInLine values out out 8 at c r writeUnknownInLine
+          pub in-line-large : {r : Wrote} → 4294967295 < w → r ≡ Refused (fault notAValue (Index (f .index))) → PutsInLine values out out 8 at c r writeUnknownInLine
           in-line-large m a base =
               let t : ltb w 4294967296 ≡ false = le-ltb w 4294967296 (omega arith) in
               rw (a, on, number-at wordFits (λ word. E.inlineBytes (envelopeBytes word v 1)) values (f .index) (f .next) (f .handles) l, ← reads, t)
-              (put-cannot notAValue (suc (length (drop (f .index + 1) values))) (f .index) (omega (arith, length-drop (f .index + 1) values)) (omega arith))
+              (put-cannot notAValue (suc (length (drop (f .index + 1) values))) (f .index) (omega (arith, length-drop (f .index + 1) values)))
 
           pub in-line-put : {out′ : List ℕ} {g : Cursor} → w ≤ 4294967295 → out′ ≡ sets out at (envelopeBytes w v 1) → g ≡ tookOne f
               → PutsInLine values out out′ 8 at c (On g) writeUnknownInLine
@@ -203,7 +204,7 @@ words-put {values} {out} {out₁} {out′} {size} {at} {base} {c} {g} {r} {e} by
             left = f .left;
           };
         }
-    go (cannot number left) a s f = record { says = a; stored = tt; fit = f }
+    go (cannot number left) a s f = record { says = a; stored = tt; fit = tt }
 
 module _ (values : List ℕ) (base at : ℕ) (c : Cursor) (ask : Ask values 8 at base c) {d : Cursor} (e : d ≡ tookOne c) where
   pub ask-some : 0 < d .index
@@ -220,27 +221,27 @@ module _ (values out : List ℕ) (base bytes at : ℕ) (c : Cursor) (ask : Ask v
     abbrev wordsNext : (handles : ℕ) → Encoder
     wordsNext handles = E.sequence (E.takeHandles handles) (writeWords bytes handles)
 
-    pub out-over : {r : Wrote} → 65536 - c .next < bytes → r ≡ Refused (stop messageTooLong (c .index - 1)) → Puts values out out 8 at base c r (writeUnknownOutOfLine bytes)
+    pub out-over : {r : Wrote} → 65536 - c .next < bytes → r ≡ Refused (fault messageTooLong (Index (c .index - 1))) → Puts values out out 8 at base c r (writeUnknownOutOfLine bytes)
     unfolding writeUnknownOutOfLine
     out-over m e =
         let t : leb (c .next + padded bytes) 65536 ≡ false = lt-leb (c .next + padded bytes) 65536 (omega (arith, full, ask .free)) in
-        rw (e, t) (put-cannot messageTooLong (suc (length (drop (c .index) values))) (c .index - 1) (omega (arith, ask .left, some, length-drop (c .index) values)) (omega arith))
+        rw (e, t) (put-cannot messageTooLong (suc (length (drop (c .index) values))) (c .index - 1) (omega (arith, ask .left, some, length-drop (c .index) values)))
 
     module _ (m : bytes ≤ 65536 - c .next) where
       space : writeUnknownOutOfLine bytes (drop (c .index) values) (c .next) (c .handles) ≡ E.numberThen handleNumberFits wordsNext (drop (c .index) values) (c .next) (c .handles)
       unfolding writeUnknownOutOfLine
       space = let t : leb (c .next + padded bytes) 65536 ≡ true = le-leb (c .next + padded bytes) 65536 (omega (arith, full, ask .free)) in rw t
 
-      pub out-ended : {r : Wrote} → length values ≤ c .index → r ≡ Refused (stop notAValue (c .index)) → Puts values out out 8 at base c r (writeUnknownOutOfLine bytes)
+      pub out-ended : {r : Wrote} → length values ≤ c .index → r ≡ Refused (fault notAValue (Index (c .index))) → Puts values out out 8 at base c r (writeUnknownOutOfLine bytes)
       out-ended h e =
-          rw (e, space, number-short handleNumberFits wordsNext values (c .index) (c .next) (c .handles) h) (put-cannot notAValue 0 (c .index) (omega (arith, ask .left)) (omega arith))
+          rw (e, space, number-short handleNumberFits wordsNext values (c .index) (c .next) (c .handles) h) (put-cannot notAValue 0 (c .index) (omega (arith, ask .left)))
 
       module _ {v : ℕ} (h : c .index < length values) (read : v ≡ getD values (c .index) 0) where
-        pub out-many : {r : Wrote} → 65535 < v → r ≡ Refused (stop notAValue (c .index)) → Puts values out out 8 at base c r (writeUnknownOutOfLine bytes)
+        pub out-many : {r : Wrote} → 65535 < v → r ≡ Refused (fault notAValue (Index (c .index))) → Puts values out out 8 at base c r (writeUnknownOutOfLine bytes)
         out-many k e =
             let t : ltb v 65536 ≡ false = le-ltb v 65536 (omega arith) in
             rw (e, space, number-at handleNumberFits wordsNext values (c .index) (c .next) (c .handles) h, ← read, t)
-            (put-cannot notAValue (suc (length (drop (c .index + 1) values))) (c .index) (omega (arith, length-drop (c .index + 1) values)) (omega arith))
+            (put-cannot notAValue (suc (length (drop (c .index + 1) values))) (c .index) (omega (arith, length-drop (c .index + 1) values)))
 
         module _ {d : Cursor} (k : v ≤ 65535) (e : d ≡ tookOne c) where
           out-goes : writeUnknownOutOfLine bytes (drop (c .index) values) (c .next) (c .handles)
@@ -250,7 +251,7 @@ module _ (values out : List ℕ) (base bytes at : ℕ) (c : Cursor) (ask : Ask v
               let t : ltb v 65536 ≡ true = lt-ltb v 65536 (omega arith) in
               space ∙ rw (number-at handleNumberFits wordsNext values (c .index) (c .next) (c .handles) h, ← read, t)
 
-          pub out-handles-over : {f : Stop} {y : Wrote} → HandlesTaken v d y → y ≡ Refused f → Puts values out out 8 at base c (Refused f) (writeUnknownOutOfLine bytes)
+          pub out-handles-over : {f : Fault} {y : Wrote} → HandlesTaken v d y → y ≡ Refused f → Puts values out out 8 at base c (Refused f) (writeUnknownOutOfLine bytes)
           out-handles-over {f} p x =
               let q : HandlesTaken v (tookOne c) (Refused f) = rw (e, x) at p in
               rw out-goes (put-later (put-halt 8 (writeWords bytes v) (q values out at base (took-stands ask-stands h))))
@@ -278,10 +279,10 @@ module _ (values out : List ℕ) (base bytes at : ℕ) (c : Cursor) (ask : Ask v
                 (words-put {g = words-at} bytes (envelopeBytes bytes v 0) (envelope-whole bytes v 0) (omega (arith, eights)) full (omega (arith, ask .inside)) stored refl (omega arith) (omega arith) (q base))
 
         module _ (k : v ≤ 65535) where
-          pub plain-over : {r : Wrote} → 64 < c .handles + v → r ≡ Refused (stop 4 (c .index)) → Puts values out out 8 at base c r (writeUnknownOutOfLine bytes)
+          pub plain-over : {r : Wrote} → 64 < c .handles + v → r ≡ Refused (fault 4 (Index (c .index))) → Puts values out out 8 at base c r (writeUnknownOutOfLine bytes)
           plain-over l e =
               let i : c .index ≡ c .index + 1 - 1 = omega arith in
-              rw e (out-handles-over {d = tookOne c} k refl (handles-over v (tookOne c) l (omega arith) (ap (λ (n : ℕ). Refused (stop 4 n)) i)) refl)
+              rw e (out-handles-over {d = tookOne c} k refl (handles-over v (tookOne c) l (omega arith) (ap (λ (n : ℕ). Refused (fault 4 (Index n))) i)) refl)
 
           pub plain-put : {out₁ out′ : List ℕ} {r : Wrote} → c .handles + v ≤ 64 → out₁ ≡ sets out at (envelopeBytes bytes v 0)
               → PutsInLine values out₁ out′ (bytes / 8 * 8) (c .next - base) (record { next = c .next + bytes; handles = c .handles + v; index = c .index + 1 }) r (numbersAs 8 (bytes / 8))
@@ -301,10 +302,10 @@ module _ (values : List ℕ) (base at : ℕ) (c : Cursor) (ask : Ask values 8 at
   content-ask = rw e (record { inside = ask .inside; free = ask .free; held = ask .held; left = omega arith })
 
 module _ (values out : List ℕ) (depth base at : ℕ) (c : Cursor) (ask : Ask values 8 at base c) where
-  pub content-deep : {r : Wrote} → depth ≡ 0 → 0 < c .index → r ≡ Refused (stop tooDeep (c .index - 1)) → UnknownPuts values out out depth at c base r
+  pub content-deep : {r : Wrote} → depth ≡ 0 → 0 < c .index → r ≡ Refused (fault tooDeep (Index (c .index - 1))) → UnknownPuts values out out depth at c base r
   unfolding writeUnknown R.levels
   content-deep z some e t =
-      rw (e, z) (put-cannot tooDeep (suc (length (drop (c .index) values))) (c .index - 1) (omega (arith, ask .left, some, length-drop (c .index) values)) (omega arith))
+      rw (e, z) (put-cannot tooDeep (suc (length (drop (c .index) values))) (c .index - 1) (omega (arith, ask .left, some, length-drop (c .index) values)))
 
   module _ (deep : depth ≡ 0 → ⊥) where
     content-goes : (t : TypeTable) → writeUnknown (R.levels t depth) (drop (c .index) values) (c .next) (c .handles)
@@ -317,21 +318,21 @@ module _ (values out : List ℕ) (depth base at : ℕ) (c : Cursor) (ask : Ask v
         go zero k = absurd (k refl)
         go (suc n) k = refl
 
-    pub content-ended : {r : Wrote} → length values ≤ c .index → r ≡ Refused (stop notAValue (c .index)) → UnknownPuts values out out depth at c base r
+    pub content-ended : {r : Wrote} → length values ≤ c .index → r ≡ Refused (fault notAValue (Index (c .index))) → UnknownPuts values out out depth at c base r
     content-ended h e t =
-        rw (e, content-goes t, number-short byteNumberFits contentNext values (c .index) (c .next) (c .handles) h) (put-cannot notAValue 0 (c .index) (omega (arith, ask .left)) (omega arith))
+        rw (e, content-goes t, number-short byteNumberFits contentNext values (c .index) (c .next) (c .handles) h) (put-cannot notAValue 0 (c .index) (omega (arith, ask .left)))
 
     module _ {v : ℕ} (h : c .index < length values) (read : v ≡ getD values (c .index) 0) where
-      content-unfit : byteNumberFits v ≡ false → UnknownPuts values out out depth at c base (Refused (stop notAValue (c .index)))
+      content-unfit : byteNumberFits v ≡ false → UnknownPuts values out out depth at c base (Refused (fault notAValue (Index (c .index))))
       content-unfit w t =
           rw (content-goes t, number-at byteNumberFits contentNext values (c .index) (c .next) (c .handles) h, ← read, w)
-          (put-cannot notAValue (suc (length (drop (c .index + 1) values))) (c .index) (omega (arith, length-drop (c .index + 1) values)) (omega arith))
+          (put-cannot notAValue (suc (length (drop (c .index + 1) values))) (c .index) (omega (arith, length-drop (c .index + 1) values)))
 
-      pub content-odd : {r : Wrote} → (v % 8 ≡ 0 → ⊥) → r ≡ Refused (stop notAValue (c .index)) → UnknownPuts values out out depth at c base r
+      pub content-odd : {r : Wrote} → (v % 8 ≡ 0 → ⊥) → r ≡ Refused (fault notAValue (Index (c .index))) → UnknownPuts values out out depth at c base r
       content-odd k e = let w : byteNumberFits v ≡ false = rw (ne-eqb (v % 8) 0 k) in rw e (content-unfit w)
 
       module _ (eights : v % 8 ≡ 0) where
-        pub content-large : {r : Wrote} → 4294967295 < v → r ≡ Refused (stop notAValue (c .index)) → UnknownPuts values out out depth at c base r
+        pub content-large : {r : Wrote} → 4294967295 < v → r ≡ Refused (fault notAValue (Index (c .index))) → UnknownPuts values out out depth at c base r
         content-large k e =
             let l : ltb v 4294967296 ≡ false = le-ltb v 4294967296 (omega arith) in
             let w : byteNumberFits v ≡ false = rw (eights, l) in rw e (content-unfit w)

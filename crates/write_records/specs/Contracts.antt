@@ -33,18 +33,18 @@ use Rattle.write_records.specs.Opening.{Opens}
 -- An object that is open has so many elements, and a level of depth was left for it.
 abbrev pub HasCount : (count : ℕ) → Opened → Type 0
 HasCount count (Closed d) = Unit {0}
-HasCount count (Refused s) = Unit {0}
+HasCount count (Refused f) = Unit {0}
 HasCount count (Open x) = x .count ≡ count
 
 -- A claim is open or refused.
 abbrev pub NotClosed : Opened → Type 0
 NotClosed (Closed d) = ⊥
-NotClosed (Refused s) = Unit {0}
+NotClosed (Refused f) = Unit {0}
 NotClosed (Open x) = Unit {0}
 
 abbrev pub Reaches : (depth : ℕ) → Opened → Type 0
 Reaches depth (Closed d) = Unit {0}
-Reaches depth (Refused s) = Unit {0}
+Reaches depth (Refused f) = Unit {0}
 Reaches depth (Open x) = 0 < depth
 
 -- A claim, whatever is written in it: 3. The output is left alone.
@@ -118,7 +118,7 @@ sealedOut out size at bytes handles =
 -- Put already, or refused; or whoever writes the member's content in the envelope after the ordinal has put the whole.
 abbrev pub OpensMember : (values out out′ : List ℕ) (inline at base : ℕ) (c : Cursor) (whole : E.Encoded) (content : Ordinal → Encoder) → Member → Type 0
 OpensMember values out out′ inline at base c whole content (None d) = Put values out out′ inline at base c (W.On d) whole
-OpensMember values out out′ inline at base c whole content (Bad s) = Put values out out′ inline at base c (W.Refused s) whole
+OpensMember values out out′ inline at base c whole content (Bad f) = Put values out out′ inline at base c (W.Refused f) whole
 OpensMember values out out′ inline at base c whole content (Some what d) =
     (d ≡ tookOne c) × (c .index < length values)
     × ((out″ : List ℕ) (r : Wrote) → Puts values out′ out″ 8 (at + 8) base d r (content what) → Put values out out″ inline at base c r whole)
@@ -135,5 +135,5 @@ UnionOpens members values out out′ at c first count form r =
 -- The member that a union's number stands for.
 abbrev pub MemberIs : (members values : List ℕ) (c : Cursor) (first count : ℕ) → Member → Type 0
 MemberIs members values c first count (None d) = Unit {0}
-MemberIs members values c first count (Bad s) = Unit {0}
+MemberIs members values c first count (Bad f) = Unit {0}
 MemberIs members values c first count (Some what d) = ContentIs members first count (getD values (c .index) 0) what

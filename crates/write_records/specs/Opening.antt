@@ -35,7 +35,7 @@ ObjectPut values out out′ size base c r fields =
 -- Put already, or refused; or an object of `size` bytes is open, and whoever writes `fields` as that object has put the whole.
 abbrev pub Opens : (values out out′ : List ℕ) (inline at base : ℕ) (c : Cursor) (whole : Encoded) (size : Opening → ℕ) (fields : Opening → Encoder) → Opened → Type 0
 Opens values out out′ inline at base c whole size fields (Closed d) = Put values out out′ inline at base c (W.On d) whole
-Opens values out out′ inline at base c whole size fields (Refused s) = Put values out out′ inline at base c (W.Refused s) whole
+Opens values out out′ inline at base c whole size fields (Refused f) = Put values out out′ inline at base c (W.Refused f) whole
 Opens values out out′ inline at base c whole size fields (Open x) =
     (x .start ≡ c .next) × (x .cursor ≡ opened (size x) (claimedFrom x)) × Stands values (x .cursor)
     × ((out″ : List ℕ) (r : Wrote) → ObjectPut values out′ out″ (size x) base (claimedFrom x) r (fields x) → Put values out out″ inline at base c r whole)

@@ -8,12 +8,12 @@ ghost use Rattle.nesting.specs.Ordinals.{ordinalIs, Rising};
 ghost use Rattle.write_leaves.specs.Putting.{Stands, Ask, Puts, PutsInLine};
 ghost use Rattle.write_records.specs.Contracts.{UnionOpens, MemberIs, UnknownPuts, sealedOut};
 use nesting::Ordinal;
+use rules::Fault;
 use write_leaves::cursor::Cursor;
-use write_leaves::cursor::Stop;
 use write_leaves::cursor::Wrote;
+use write_leaves::cursor::fault_at;
 use write_leaves::cursor::put_zeros;
 use write_leaves::cursor::refused;
-use write_leaves::cursor::stop_at;
 use write_leaves::cursor::took;
 use write_leaves::cursor::with_handles;
 use write_leaves::scalars::numbers;
@@ -22,7 +22,7 @@ use write_leaves::scalars::numbers;
 pub enum Member {
     None(Cursor),
     Some(Ordinal, Cursor),
-    Bad(Stop),
+    Bad(Fault),
 }
 
 fn is_known(what: Ordinal) -> bool
@@ -50,12 +50,12 @@ pub fn union_member(
     ensures { λ r. ⌜ UnionOpens (now (members .entry)) (now (values .entry)) (now (out .entry)) (now (out .exit)) at c first count form r × MemberIs (now (members .entry)) (now (values .entry)) c first count r ⌝ }
 {
     if values.len() <= c.index {
-        return Member::Bad(stop_at(26, c.index));
+        return Member::Bad(fault_at(26, c.index));
     }
     let v = words::value_at(values, c.index);
     if v == 0 {
         if form % 2 == 0 {
-            return Member::Bad(stop_at(26, c.index));
+            return Member::Bad(fault_at(26, c.index));
         }
         words::store64(out, at, 0);
         words::store64(out, at + 8, 0);
@@ -64,7 +64,7 @@ pub fn union_member(
     let what = nesting::ordinal_of(members, first, count, v);
     let accepted = (2 <= form) | is_known(what);
     if !accepted {
-        return Member::Bad(stop_at(26, c.index));
+        return Member::Bad(fault_at(26, c.index));
     }
     words::store64(out, at, v);
     Member::Some(what, took(c))

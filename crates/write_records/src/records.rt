@@ -3,12 +3,12 @@ ghost use Prim.Native.Nat.{_+_, _*_, _≤_, _<_};
 ghost use lib.ListN.{length};
 ghost use Rattle.write_leaves.specs.Putting.{Stands, Ask};
 ghost use Rattle.write_records.specs.Contracts.{HasCount, NotClosed, Reaches, ClaimOpens, DeeperOpens, CountedOpens, StringPuts, BoxOpens, TableOpens};
+use rules::Fault;
 use write_leaves::cursor::Cursor;
-use write_leaves::cursor::Stop;
 use write_leaves::cursor::Wrote;
+use write_leaves::cursor::fault_at;
 use write_leaves::cursor::put_zeros;
 use write_leaves::cursor::refused;
-use write_leaves::cursor::stop_at;
 use write_leaves::cursor::took;
 use write_leaves::scalars::numbers;
 
@@ -22,7 +22,7 @@ pub struct Opening {
 pub enum Opened {
     Closed(Cursor),
     Open(Opening),
-    Refused(Stop),
+    Refused(Fault),
 }
 
 // Goes one level deeper and claims: 5, 3, at the number taken last.
@@ -31,7 +31,7 @@ pub fn deeper(depth: usize, count: usize, size: usize, c: Cursor) -> Opened
     ensures { λ r. ⌜ DeeperOpens depth size c r × HasCount count r × Reaches depth r × NotClosed r ⌝ }
 {
     if depth == 0 {
-        return Opened::Refused(stop_at(5, c.index - 1));
+        return Opened::Refused(fault_at(5, c.index - 1));
     }
     claim(count, size, c)
 }
@@ -42,7 +42,7 @@ pub fn claim(count: usize, size: usize, c: Cursor) -> Opened
 {
     let whole = (size + 7) / 8 * 8;
     if 65536 - c.next < whole {
-        return Opened::Refused(stop_at(3, c.index - 1));
+        return Opened::Refused(fault_at(3, c.index - 1));
     }
     let start = c.next;
     Opened::Open(Opening {
@@ -71,12 +71,12 @@ pub fn vector_opened(
     ensures { λ r. ⌜ CountedOpens (now (values .entry)) (now (out .entry)) (now (out .exit)) depth at c size largest optional r × Reaches depth r ⌝ }
 {
     if values.len() <= c.index {
-        return Opened::Refused(stop_at(26, c.index));
+        return Opened::Refused(fault_at(26, c.index));
     }
     let v = words::value_at(values, c.index);
     if v == 0 {
         if optional != 1 {
-            return Opened::Refused(stop_at(26, c.index));
+            return Opened::Refused(fault_at(26, c.index));
         }
         words::store64(out, at, 0);
         words::store64(out, at + 8, 0);
@@ -84,7 +84,7 @@ pub fn vector_opened(
     }
     let count = v - 1;
     if (largest as u64) < count {
-        return Opened::Refused(stop_at(26, c.index));
+        return Opened::Refused(fault_at(26, c.index));
     }
     words::store64(out, at, count);
     words::store64(out, at + 8, 18446744073709551615);
@@ -143,11 +143,11 @@ pub fn box_opened(
     ensures { λ r. ⌜ BoxOpens (now (values .entry)) (now (out .entry)) (now (out .exit)) depth at c size r × Reaches depth r ⌝ }
 {
     if values.len() <= c.index {
-        return Opened::Refused(stop_at(26, c.index));
+        return Opened::Refused(fault_at(26, c.index));
     }
     let v = words::value_at(values, c.index);
     if 1 < v {
-        return Opened::Refused(stop_at(26, c.index));
+        return Opened::Refused(fault_at(26, c.index));
     }
     if v == 0 {
         words::store64(out, at, 0);
@@ -163,16 +163,16 @@ pub fn table_opened(values: &[u64], out: &mut [u8], depth: usize, at: usize, c: 
     ensures { λ r. ⌜ TableOpens (now (values .entry)) (now (out .entry)) (now (out .exit)) depth at c r × Reaches depth r ⌝ }
 {
     if values.len() <= c.index {
-        return Opened::Refused(stop_at(26, c.index));
+        return Opened::Refused(fault_at(26, c.index));
     }
     let v = words::value_at(values, c.index);
     words::store64(out, at, v);
     words::store64(out, at + 8, 18446744073709551615);
     if depth == 0 {
-        return Opened::Refused(stop_at(5, c.index));
+        return Opened::Refused(fault_at(5, c.index));
     }
     if 8192 < v {
-        return Opened::Refused(stop_at(3, c.index));
+        return Opened::Refused(fault_at(3, c.index));
     }
     claim(v as usize, v as usize * 8, took(c))
 }

@@ -7,6 +7,7 @@ use Prim.Native.Nat.{ℕ, _+_, _-_, _≤_, _<_}
 use native.Mathlib.Omega.{arith}
 use lib.ListN.{length, drop, getD, set}
 use lib.Seq.{sets, length-sets}
+use Rattle.rules.specs.declared.Fault.{Fault}
 use Rattle.rules.specs.Bytes.{zeros}
 use Rattle.rules.specs.TypeTable.{TypeTable}
 use Rattle.rules.specs.Sizes.{layoutOf, sizeOf}
@@ -25,7 +26,6 @@ use Rattle.nesting.proofs.Steps.{Known, Stepped, fuel}
 use Rattle.nesting.proofs.Going.{Going, Bounded, Opens}
 use Rattle.nesting.proofs.Turns as T
 use Rattle.write_leaves.specs.declared.cursor.Cursor.{Cursor}
-use Rattle.write_leaves.specs.declared.cursor.Stop.{Stop}
 use Rattle.write_leaves.specs.declared.cursor.Wrote.{Wrote}
 use Rattle.write_leaves.specs.declared.cursor.Wrote.the-variants.{On, Refused}
 use Rattle.write_leaves.specs.Putting.{Ask}
@@ -110,7 +110,7 @@ module _ {none : Level} {t : TypeTable} {sizes alignments values : List ℕ} {ba
           let turn = T.turn-called ready bounded (step q) (w .going) is (PartsLeft t values base depth top at out c out″ f) (parts-bounded t values base depth top at out c out″ f) left in
           (record { going = turn .0; lengths = wrote-length put ∙ w .lengths }, turn .1)
 
-      pub call-refused : {f : Stop} → r ≡ Refused f → ValuePut t values out out″ base depth at c top (Refused f)
+      pub call-refused : {f : Fault} → r ≡ Refused f → ValuePut t values out out″ base depth at c top (Refused f)
       call-refused same = item-refused (T.turn-call ready bounded (step q) (w .going) .2) (rw same at p)
 
     pub out-done : s ≡ Out

@@ -7,7 +7,9 @@ use native.Mathlib.Omega.{arith}
 use borrow.Author.Tests.{le-leb, lt-leb}
 use lib.ListN.{length, drop, getD, length-append}
 use lib.Seq.{sets}
-use Rattle.rules.specs.Refusals.{tooDeep}
+use Rattle.rules.specs.declared.Fault.{Fault}
+use Rattle.rules.specs.declared.Place.the-variants.{Index}
+use Rattle.rules.specs.Refusals.{fault, tooDeep}
 use Rattle.rules.specs.Bytes.{bytesOf, zeros}
 use Rattle.rules.specs.TypeTable.{TypeTable, rowCount, known}
 use Rattle.rules.specs.Sizes.{sizeOf}
@@ -22,13 +24,12 @@ use Rattle.nesting.specs.Ready.{Ready}
 use Rattle.nesting.proofs.Readiness.{row-in-use, row-size, size-small, ready-at}
 use Rattle.words.proofs.Stores.{sets-append, sets-comm, length-bytesOf}
 use Rattle.write_leaves.specs.declared.cursor.Cursor.{Cursor}
-use Rattle.write_leaves.specs.declared.cursor.Stop.{Stop}
 use Rattle.write_leaves.specs.declared.cursor.Wrote.{Wrote}
 use Rattle.write_leaves.specs.declared.cursor.Wrote.the-variants.{On, Refused}
 use Rattle.write_records.specs.declared.records.Opening.{Opening}
 use Rattle.write_records.specs.declared.records.Opened.{Opened}
 use Rattle.write_records.specs.declared.records.Opened.the-variants.{Closed, Open}
-use Rattle.write_leaves.specs.Putting.{stop, answer, Stored, Fits, Fit, Put, Puts, Stands, Ask}
+use Rattle.write_leaves.specs.Putting.{answer, Stored, Fits, Fit, Put, Puts, Stands, Ask}
 use Rattle.write_records.specs.Opening.{Opens}
 use Rattle.write_records.specs.Contracts.{NotClosed, UnknownPuts, DeeperOpens, sealedOut}
 use Rattle.write_walk.specs.Walking.{Claimed, writeRow, ValuePut, SingleOf, ContentPut}
@@ -119,21 +120,21 @@ module _ {values out out′ out″ : List ℕ} {at base : ℕ} {c d : Cursor} wh
       go (cannot number left) a t f = absurd (let y : _≡_ {A = ℕ} 0 1 = cc in omega arith)
 
 -- A part that is refused, whatever its envelope's fields would be.
-flags-halt : {values out out′ : List ℕ} {size at base : ℕ} (form whole used : ℕ) {c : Cursor} {s : Stop} {e : Encoded} → Put values out out′ size at base c (Refused s) e
-    → Put values out out′ whole at base c (Refused s) (flagsGo form used e)
-flags-halt {values} {out} {out′} {size} {at} {base} form whole used {c} {s} {e} p = go e (p .says) (p .fit)
+flags-halt : {values out out′ : List ℕ} {size at base : ℕ} (form whole used : ℕ) {c : Cursor} {f : Fault} {e : Encoded} → Put values out out′ size at base c (Refused f) e
+    → Put values out out′ whole at base c (Refused f) (flagsGo form used e)
+flags-halt {values} {out} {out′} {size} {at} {base} form whole used {c} {f} {e} p = go e (p .says)
   where
-    go : (e : Encoded) → Refused s ≡ answer (length values) e → Fit values size c e → Put values out out′ whole at base c (Refused s) (flagsGo form used e)
-    go (wrote inline outside n u rest) a f = absurd (let y : _≡_ {A = ℕ} 0 1 = cc in omega arith)
-    go (cannot number left) a f = record { says = a; stored = tt; fit = f }
+    go : (e : Encoded) → Refused f ≡ answer (length values) e → Put values out out′ whole at base c (Refused f) (flagsGo form used e)
+    go (wrote inline outside n u rest) a = absurd (let y : _≡_ {A = ℕ} 0 1 = cc in omega arith)
+    go (cannot number left) a = record { says = a; stored = tt; fit = tt }
 
-bytes-halt : {values out out′ : List ℕ} {size at base : ℕ} (next : ℕ) {c : Cursor} {s : Stop} {e : Encoded} → Put values out out′ size at base c (Refused s) e
-    → Put values out out′ size at base c (Refused s) (byteNumberGoes next e)
-bytes-halt {values} {out} {out′} {size} {at} {base} next {c} {s} {e} p = go e (p .says) (p .fit)
+bytes-halt : {values out out′ : List ℕ} {size at base : ℕ} (next : ℕ) {c : Cursor} {f : Fault} {e : Encoded} → Put values out out′ size at base c (Refused f) e
+    → Put values out out′ size at base c (Refused f) (byteNumberGoes next e)
+bytes-halt {values} {out} {out′} {size} {at} {base} next {c} {f} {e} p = go e (p .says)
   where
-    go : (e : Encoded) → Refused s ≡ answer (length values) e → Fit values size c e → Put values out out′ size at base c (Refused s) (byteNumberGoes next e)
-    go (wrote inline outside n u rest) a f = absurd (let y : _≡_ {A = ℕ} 0 1 = cc in omega arith)
-    go (cannot number left) a f = record { says = a; stored = tt; fit = f }
+    go : (e : Encoded) → Refused f ≡ answer (length values) e → Put values out out′ size at base c (Refused f) (byteNumberGoes next e)
+    go (wrote inline outside n u rest) a = absurd (let y : _≡_ {A = ℕ} 0 1 = cc in omega arith)
+    go (cannot number left) a = record { says = a; stored = tt; fit = tt }
 
 -- ---- unknown content
 
@@ -176,17 +177,17 @@ module _ (t : TypeTable) (values out : List ℕ) (base depth row at : ℕ) (c : 
         let fits-in = le-leb (sizeOf t payload) 4 (omega (arith, sized, small)) in
         rw fits-in (rw sized)
 
-    pub small-too-deep : {r : Wrote} → depth ≡ 0 → 0 < c .index → r ≡ Refused (stop tooDeep (c .index - 1)) → ContentPut t values out out base depth at c what r
+    pub small-too-deep : {r : Wrote} → depth ≡ 0 → 0 < c .index → r ≡ Refused (fault tooDeep (Index (c .index - 1))) → ContentPut t values out out base depth at c what r
     unfolding writeFlags E.sequence
     small-too-deep z i y =
-        rw (is, in-line, y, levels-spent t depth z) (put-last tooDeep (c .index) (c .index - 1) (omega arith) (ask .left) (omega arith))
+        rw (is, in-line, y, levels-spent t depth z) (put-last tooDeep (c .index) (c .index - 1) (omega arith) (ask .left))
 
     module _ (down : depth ≡ 0 → ⊥) where
       pub small-asks : Ask values (sizeOf t payload) at base c
       small-asks = record { inside = omega (arith, ask .inside, payload-size what ready fits is kept); free = ask .free; held = ask .held; left = ask .left }
 
       module _ {out′ : List ℕ} {w : Wrote} (p : ValuePut t values out out′ base (depth - 1) at c payload w) where
-        pub small-refused : {f : Stop} → w ≡ Refused f → ContentPut t values out out′ base depth at c what (Refused f)
+        pub small-refused : {f : Fault} → w ≡ Refused f → ContentPut t values out out′ base depth at c what (Refused f)
         unfolding writeFlags E.sequence
         small-refused z =
             rw (is, in-line, levels-down t depth down) (flags-halt inLine 8 (c .handles) (put-halt 4 (E.fill (4 - size)) (rw z at p)))
@@ -226,7 +227,7 @@ module _ (t : TypeTable) (values out : List ℕ) (base depth row at : ℕ) (c : 
     pub large-closed : {d : Cursor} → NotClosed r → r ≡ Closed d → ContentPut t values out out base depth at c what (On d)
     large-closed n e = absurd (rw e at n)
 
-    pub large-not-open : {f : Stop} → r ≡ Opened.Refused f → ContentPut t values out out base depth at c what (Refused f)
+    pub large-not-open : {f : Fault} → r ≡ Opened.Refused f → ContentPut t values out out base depth at c what (Refused f)
     unfolding writeFlags writeByteNumber
     large-not-open e = rw (is, out-of-line) (flags-halt outOfLine 8 (c .handles) (bytes-halt (c .next) (opening e)))
 
@@ -243,7 +244,7 @@ module _ (t : TypeTable) (values out : List ℕ) (base depth row at : ℕ) (c : 
             let sized = payload-size what ready fits is kept in
             opening e .3 out′ w (rw sized at p)
 
-        pub large-refused : {f : Stop} → w ≡ Refused f → ContentPut t values out out′ base depth at c what (Refused f)
+        pub large-refused : {f : Fault} → w ≡ Refused f → ContentPut t values out out′ base depth at c what (Refused f)
         unfolding writeFlags writeByteNumber
         large-refused z = rw (is, out-of-line) (flags-halt outOfLine 8 (c .handles) (bytes-halt (c .next) (rw z at claimed-put)))
 

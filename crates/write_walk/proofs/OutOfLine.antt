@@ -5,6 +5,7 @@ use mathlib.Core.Path.{_≡_, refl, sym, ap, _∙_}
 use Prim.Native.Nat.{ℕ, _+_, _-_, _*_, _≤_, _<_, min}
 use native.Mathlib.Omega.{arith}
 use lib.ListN.{length, take, drop, getD}
+use Rattle.rules.specs.declared.Fault.{Fault}
 use Rattle.rules.specs.TypeTable.{TypeTable, eightByteEnvelopes, kindAt, aAt, bAt, cAt, contentOf}
 use Rattle.rules.specs.Sizes.{sizeOf}
 use Rattle.rules.specs.Encode as E
@@ -18,7 +19,6 @@ use Rattle.nesting.proofs.ByKind.{size-vector, size-box, size-table, size-union
 use Rattle.nesting.proofs.Members.{MembersRise, ordinal-fits, vector-in-use, box-in-use}
 use Rattle.nesting.proofs.Readiness.{row-size}
 use Rattle.write_leaves.specs.declared.cursor.Cursor.{Cursor}
-use Rattle.write_leaves.specs.declared.cursor.Stop.{Stop}
 use Rattle.write_leaves.specs.declared.cursor.Wrote.{Wrote}
 use Rattle.write_leaves.specs.declared.cursor.Wrote.the-variants.{On, Refused}
 use Rattle.write_records.specs.declared.records.Opening.{Opening}
@@ -77,7 +77,7 @@ module _ (t : TypeTable) (values out out′ : List ℕ) (base depth row at : ℕ
     pub vector-closed : {d : Cursor} → r ≡ Closed d → ValuePut t values out out′ base depth at c row (On d)
     vector-closed z = vector-row z
 
-    pub vector-refused : {f : Stop} → r ≡ Opened.Refused f → ValuePut t values out out′ base depth at c row (Refused f)
+    pub vector-refused : {f : Fault} → r ≡ Opened.Refused f → ValuePut t values out out′ base depth at c row (Refused f)
     vector-refused z = vector-row z
 
     module _ {x : Opening} (z : r ≡ Open x) where
@@ -103,7 +103,7 @@ module _ (t : TypeTable) (values out out′ : List ℕ) (base depth row at : ℕ
     pub box-absent : {d : Cursor} → r ≡ Closed d → ValuePut t values out out′ base depth at c row (On d)
     box-absent z = box-row z
 
-    pub box-refused : {f : Stop} → r ≡ Opened.Refused f → ValuePut t values out out′ base depth at c row (Refused f)
+    pub box-refused : {f : Fault} → r ≡ Opened.Refused f → ValuePut t values out out′ base depth at c row (Refused f)
     box-refused z = box-row z
 
     module _ {x : Opening} (z : r ≡ Open x) where
@@ -127,7 +127,7 @@ module _ (t : TypeTable) (values out out′ : List ℕ) (base depth row at : ℕ
     pub table-closed : {d : Cursor} → r ≡ Closed d → ValuePut t values out out′ base depth at c row (On d)
     table-closed z = table-row z
 
-    pub table-refused : {f : Stop} → r ≡ Opened.Refused f → ValuePut t values out out′ base depth at c row (Refused f)
+    pub table-refused : {f : Fault} → r ≡ Opened.Refused f → ValuePut t values out out′ base depth at c row (Refused f)
     table-refused z = table-row z
 
     module _ {x : Opening} (z : r ≡ Open x) where
@@ -163,7 +163,7 @@ module _ (t : TypeTable) (values out out′ : List ℕ) (base depth row at : ℕ
   pub union-none : {d : Cursor} → r ≡ None d → ValuePut t values out out′ base depth at c row (On d)
   union-none z = union-row z
 
-  pub union-bad : {f : Stop} → r ≡ Bad f → ValuePut t values out out′ base depth at c row (Refused f)
+  pub union-bad : {f : Fault} → r ≡ Bad f → ValuePut t values out out′ base depth at c row (Refused f)
   union-bad z = union-row z
 
   module _ {what : Ordinal} {d : Cursor} (z : r ≡ Some what d) where

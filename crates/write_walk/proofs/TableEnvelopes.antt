@@ -10,7 +10,9 @@ use borrow.Author.Tests.{lt-ltb}
 use lib.Dec.{eqb, ltb}
 use lib.ListN.{length, drop, getD, length-drop, drop-of-length-le}
 use lib.Seq.{sets, drop-cons}
-use Rattle.rules.specs.Refusals.{notAValue}
+use Rattle.rules.specs.declared.Fault.{Fault}
+use Rattle.rules.specs.declared.Place.the-variants.{Index}
+use Rattle.rules.specs.Refusals.{fault, notAValue}
 use Rattle.rules.specs.Bytes.{zeros, bytesOf}
 use Rattle.rules.specs.TypeTable.{TypeTable, aAt, bAt, contentOf}
 use Rattle.rules.specs.Encode as E
@@ -20,10 +22,9 @@ use Rattle.rules.specs.Writer as R
 use Rattle.nesting.specs.declared.Ordinal.{Ordinal}
 use Rattle.nesting.specs.Ordinals.{ordinalIs}
 use Rattle.write_leaves.specs.declared.cursor.Cursor.{Cursor}
-use Rattle.write_leaves.specs.declared.cursor.Stop.{Stop}
 use Rattle.write_leaves.specs.declared.cursor.Wrote.{Wrote}
 use Rattle.write_leaves.specs.declared.cursor.Wrote.the-variants.{On, Refused}
-use Rattle.write_leaves.specs.Putting.{stop, Put, Puts, tookOne, Ask}
+use Rattle.write_leaves.specs.Putting.{Put, Puts, tookOne, Ask}
 use Rattle.write_walk.specs.Walking.{writeEnvelope, EnvelopesPut, ContentPut}
 use Rattle.write_leaves.proofs.InLine.{put-in-line, put-cannot}
 use Rattle.write_records.proofs.UnknownContent.{put-later}
@@ -104,17 +105,17 @@ module _ (t : TypeTable) (values : List ℕ) (base depth row count : ℕ) (out :
       abbrev contentAt : Encoder
       contentAt = writeContentOfEightBytes t (R.levels t depth) (contentOf t (aAt t row) (bAt t row) (i + 1))
 
-      pub one-ended : {w : Wrote} → length values ≤ d .index → w ≡ Refused (stop notAValue (d .index)) → EnvelopesPut t values out out′ base depth c row count w
+      pub one-ended : {w : Wrote} → length values ≤ d .index → w ≡ Refused (fault notAValue (Index (d .index))) → EnvelopesPut t values out out′ base depth c row count w
       one-ended k y =
           let a = envelope-asks in
-          rw y (run-refused r (omega arith) (rw (envelope-short (eqb (i + 1) count) contentAt values (d .index) (d .next) (d .handles) k) (put-cannot notAValue 0 (d .index) (omega (arith, a .left)) (omega arith))))
+          rw y (run-refused r (omega arith) (rw (envelope-short (eqb (i + 1) count) contentAt values (d .index) (d .next) (d .handles) k) (put-cannot notAValue 0 (d .index) (omega (arith, a .left)))))
 
       module _ {v : ℕ} (k : d .index < length values) (read : v ≡ getD values (d .index) 0) where
-        pub one-wrong : {w : Wrote} → ltb 1 v || (eqb v 0 && eqb (i + 1) count) ≡ true → w ≡ Refused (stop notAValue (d .index))
+        pub one-wrong : {w : Wrote} → ltb 1 v || (eqb v 0 && eqb (i + 1) count) ≡ true → w ≡ Refused (fault notAValue (Index (d .index)))
             → EnvelopesPut t values out out′ base depth c row count w
         one-wrong test y =
             rw y (run-refused r (omega arith) (rw (envelope-wrong (eqb (i + 1) count) contentAt values (d .index) (d .next) (d .handles) k read test)
-            (put-cannot notAValue (suc (length (drop (d .index + 1) values))) (d .index) (omega (arith, length-drop (d .index + 1) values)) (omega arith))))
+            (put-cannot notAValue (suc (length (drop (d .index + 1) values))) (d .index) (omega (arith, length-drop (d .index + 1) values)))))
 
         module _ (test : ltb 1 v || (eqb v 0 && eqb (i + 1) count) ≡ false) {e : Cursor} (took : e ≡ tookOne d) where
           pub one-absent : {out″ : List ℕ} → v ≡ 0 → out″ ≡ sets out′ (i * 8) (bytesOf 8 0) → EnvelopesLeft t values base depth row count out out″ c e (i + 1)
@@ -137,5 +138,5 @@ module _ (t : TypeTable) (values : List ℕ) (base depth row count : ℕ) (out :
             pub one-present : {f : Cursor} → w ≡ On f → EnvelopesLeft t values base depth row count out out″ c f (i + 1)
             one-present y = turn (rw y at present)
 
-            pub one-refused : {f : Stop} → w ≡ Refused f → EnvelopesPut t values out out″ base depth c row count (Refused f)
+            pub one-refused : {f : Fault} → w ≡ Refused f → EnvelopesPut t values out out″ base depth c row count (Refused f)
             one-refused y = run-refused r (omega arith) (rw y at present)

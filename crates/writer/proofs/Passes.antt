@@ -9,7 +9,8 @@ use borrow.Author.Tests.{le-leb, eq-eqb, ne-eqb}
 use lib.ListN.{length, getD, length-drop}
 use lib.Seq.{sets}
 use Rattle.rules.specs.declared.Fault.{Fault}
-use Rattle.rules.specs.Refusals.{accepted, refused}
+use Rattle.rules.specs.declared.Place.the-variants.{Index}
+use Rattle.rules.specs.Refusals.{fault, accepted, refused}
 use Rattle.rules.specs.Bytes.{zeros, roundUp, padded}
 use Rattle.rules.specs.TypeTable.{TypeTable}
 use Rattle.rules.specs.Sizes.{sizeOf}
@@ -25,10 +26,9 @@ use Rattle.nesting.specs.Ready.{Ready}
 use Rattle.writer.specs.declared.Written.{Written}
 use Rattle.writer.specs.declared.Written.the-variants as Whole
 use Rattle.write_leaves.specs.declared.cursor.Cursor.{Cursor}
-use Rattle.write_leaves.specs.declared.cursor.Stop.{Stop}
 use Rattle.write_leaves.specs.declared.cursor.Wrote.{Wrote}
 use Rattle.write_leaves.specs.declared.cursor.Wrote.the-variants.{On, Refused}
-use Rattle.write_leaves.specs.Putting.{stop, faultOf, answer, Stored, Fit, Put, Ask}
+use Rattle.write_leaves.specs.Putting.{answer, Stored, Fit, Put, Ask}
 use Rattle.write_walk.specs.Walking.{ValuePut}
 use Rattle.writer.specs.Answers.{writtenOf, sizesOf}
 use Rattle.writer.specs.Passing.{start, afterValue, PrimaryPut, Passed}
@@ -43,10 +43,10 @@ unfolding encode E.claim padded roundUp
 encode-root t root values h = rw (le-leb (0 + padded (sizeOf t root)) 65536 (omega arith))
 
 -- A value that is refused, as an object.
-object-refused : {values out out′ : List ℕ} (size : ℕ) (d : Cursor) {c : Cursor} {s : Stop} (e : Encoded) → Refused s ≡ answer (length values) e → Fit values size d e
-    → Put values out out′ 0 0 0 c (Refused s) (E.asObject size e)
-object-refused size d (wrote inline outside n u rest) a f = absurd (let w : _≡_ {A = ℕ} 0 1 = cc in omega arith)
-object-refused size d (cannot number left) a f = record { says = a; stored = tt; fit = f }
+object-refused : {values out out′ : List ℕ} (size : ℕ) {c : Cursor} {f : Fault} (e : Encoded) → Refused f ≡ answer (length values) e
+    → Put values out out′ 0 0 0 c (Refused f) (E.asObject size e)
+object-refused size (wrote inline outside n u rest) a = absurd (let w : _≡_ {A = ℕ} 0 1 = cc in omega arith)
+object-refused size (cannot number left) a = record { says = a; stored = tt; fit = tt }
 
 module _ {t : TypeTable} {sizes alignments : List ℕ} {root : ℕ} (ready : Ready t sizes alignments 32 root) {size : ℕ}
     (kept : size ≡ getD sizes root 0) where
@@ -75,14 +75,12 @@ module _ {t : TypeTable} {sizes alignments : List ℕ} {root : ℕ} (ready : Rea
     abbrev written : Encoded
     written = R.encodeRow t (R.levels t 32) root values (0 + padded (sizeOf t root)) 0
 
-    abbrev begun : Cursor
-    begun = record { next = 0 + padded (sizeOf t root); handles = 0; index = 0 }
-
-    value-put : Put values out out′ (sizeOf t root) 0 0 begun r written
+    value-put : Put values out out′ (sizeOf t root) 0 0
+        (record { next = 0 + padded (sizeOf t root); handles = 0; index = 0 }) r written
     value-put = rw claimed at put
 
-    pub primary-refused : {f : Stop} → r ≡ Refused f → PrimaryPut t values root out out′ (Refused f)
-    primary-refused e = rw (encode-root t root values size-bound) (object-refused (sizeOf t root) begun written (sym e ∙ value-put .says) (value-put .fit))
+    pub primary-refused : {f : Fault} → r ≡ Refused f → PrimaryPut t values root out out′ (Refused f)
+    primary-refused e = rw (encode-root t root values size-bound) (object-refused (sizeOf t root) written (sym e ∙ value-put .says))
 
     pub primary-put : {end : Cursor} {out″ : List ℕ} → r ≡ On end → out″ ≡ sets out′ size (zeros ((size + 7) / 8 * 8 - size))
         → PrimaryPut t values root out out″ (On end)
@@ -98,19 +96,12 @@ module _ (t : TypeTable) (values : List ℕ) (root : ℕ) {out out′ : List ℕ
   abbrev whole : Encoded
   whole = encode t root values
 
-  pub refusal-fits : {s : Stop} → r ≡ Refused s → s .number < 4294967296
-  refusal-fits {s} e = go whole (put .says) (put .fit)
-    where
-      go : (d : Encoded) → r ≡ answer (length values) d → Fit values 0 start d → s .number < 4294967296
-      go (wrote i o n u rest) a f = absurd (let w : _≡_ {A = ℕ} 0 1 = cc in omega arith)
-      go (cannot number left) a f = let same : s ≡ stop number (length values - left) = cc in rw same f
-
-  pub value-refused : {s : Stop} {f : Fault} → r ≡ Refused s → f ≡ faultOf s → Passed t values root out out′ (Whole.Refused f)
-  value-refused {s} {f} e k = record { answers = says whole (put .says); stored = λ w. nothing whole (put .says) w }
+  pub value-refused : {f : Fault} → r ≡ Refused f → Passed t values root out out′ (Whole.Refused f)
+  value-refused {f} e = record { answers = says whole (put .says); stored = λ w. nothing whole (put .says) w }
     where
       says : (d : Encoded) → r ≡ answer (length values) d → refused f ≡ sizesOf (closed (length values) d)
       says (wrote i o n u rest) a = absurd (let w : _≡_ {A = ℕ} 0 1 = cc in omega arith)
-      says (cannot number left) a = let same : s ≡ stop number (length values - left) = cc in rw (k, same)
+      says (cannot number left) a = let z : f ≡ fault number (Index (length values - left)) = cc in rw z
 
       nothing : (d : Encoded) → r ≡ answer (length values) d → (w : Rules.Written) → closed (length values) d ≡ accepted w → out′ ≡ sets out 0 (w .bytes)
       nothing (wrote i o n u rest) a w q = absurd (let z : _≡_ {A = ℕ} 0 1 = cc in omega arith)

@@ -16,7 +16,6 @@ use rules::Place;
 use write_leaves::cursor::Cursor;
 use write_leaves::cursor::Wrote;
 use write_leaves::cursor::fault_at;
-use write_leaves::cursor::fault_of;
 use write_leaves::cursor::put_zeros;
 use write_walk::walk::value;
 
@@ -85,7 +84,7 @@ pub fn pass(
     ensures { λ r. ⌜ Passed (typeTable (now (rows .entry)) (now (members .entry))) (now (values .entry)) root (now (out .entry)) (now (out .exit)) r ⌝ }
 {
     match primary(rows, members, sizes, alignments, root as usize, values, out) {
-        Wrote::Refused(s) => Written::Refused(fault_of(s)),
+        Wrote::Refused(f) => Written::Refused(f),
         Wrote::On(end) => after(end, values.len()),
     }
 }

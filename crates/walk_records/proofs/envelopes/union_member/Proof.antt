@@ -22,7 +22,7 @@ returns-3 c =
     let at-load642 = at-if1 .before in
     let at-load64 = at-load642 .before in
     let start = at-load64 .before .before .before .before in
-    (λ t objects edition same. union-not-absent t _ _ objects _ _ _ _ _ _ _ _ (at-load64 .load64 .ensures) (at-if1 .if1 .taken) edition (start .pre .0) (at-if2 .if2 .left) (at-load642 .load642 .ensures) (at-gave .gave .ensures) (at-if3 .if3 .left) (c .stop-at2 .ensures), search needs)
+    (λ t objects edition same. union-not-absent t _ _ objects _ _ _ _ _ _ _ _ (at-load64 .load64 .ensures) (at-if1 .if1 .taken) edition (start .pre .0) (at-if2 .if2 .left) (at-load642 .load642 .ensures) (at-gave .gave .ensures) (at-if3 .if3 .left) (c .fault-at2 .ensures), search needs)
 
 returns-4 : tie.Need-returns-4
 returns-4 c =
@@ -42,7 +42,7 @@ returns-5 c =
     let at-shared-slice-known2 = at-load64 .before .before in
     let start = at-shared-slice-known2 .before .before in (
       λ t objects edition same. union-empty t _ _ objects _ _ _ _ _ _ _ _ _ (at-ordinal-of .ordinal-of .result) _ edition same (start .pre .0) (start .pre .1) (at-load64 .load64 .ensures) (at-if1 .if1 .left) (start .pre .2) (start .pre .3) (at-ordinal-of .ordinal-of .ensures)
-          (at-is-known .is-known .ensures) (at-if4 .if4 .left) (at-load642 .load642 .ensures) (at-gave2 .gave2 .ensures) (at-shared-slice-known2 .shared-slice-known2 .given) (at-if5 .if5 .taken) (c .stop-at4 .ensures),
+          (at-is-known .is-known .ensures) (at-if4 .if4 .left) (at-load642 .load642 .ensures) (at-gave2 .gave2 .ensures) (at-shared-slice-known2 .shared-slice-known2 .given) (at-if5 .if5 .taken) (c .fault-at4 .ensures),
       search needs,
     )
 

@@ -24,7 +24,7 @@ returns-4 c =
     let at-value-at = at-if2 .before in
     let at-if1 = at-value-at .before in
     let start = at-if1 .before .before .before .before .before in
-    (union-unknown _ _ _ _ _ _ _ _ (start .pre .0) (omega (arith, at-if1 .if1 .left)) (at-value-at .value-at .ensures) (search needs) (at-if2 .if2 .left) (start .pre .2) (at-ordinal-of .ordinal-of .result) _ (c .before .before .is-known .ensures) (λ t same. at-ordinal-of .ordinal-of .ensures ∙ halved-content t _ _ _ same (start .pre .3) (start .pre .4)) (c .before .if4 .taken) (c .stop-at3 .ensures), search needs)
+    (union-unknown _ _ _ _ _ _ _ _ (start .pre .0) (omega (arith, at-if1 .if1 .left)) (at-value-at .value-at .ensures) (search needs) (at-if2 .if2 .left) (start .pre .2) (at-ordinal-of .ordinal-of .result) _ (c .before .before .is-known .ensures) (λ t same. at-ordinal-of .ordinal-of .ensures ∙ halved-content t _ _ _ same (start .pre .3) (start .pre .4)) (c .before .if4 .taken) (c .fault-at3 .ensures), search needs)
 
 returns-5 : tie.Need-returns-5
 returns-5 c =
