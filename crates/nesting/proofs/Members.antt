@@ -3,11 +3,10 @@
 use mathlib.Core.Bool.{Bool, true, false, _&&_}
 use mathlib.Core.List.{List}
 use mathlib.Core.Path.{_≡_, refl, sym, _∙_}
-use Prim.Native.Nat.{ℕ, zero, suc, _+_, _*_, _≤_, _<_}
+use Prim.Native.Nat.{ℕ, zero, suc, _+_, _≤_, _<_}
 use native.Mathlib.Omega.{arith}
 use borrow.Author.Tests.{leb-true, ltb-true, eqb-true, eqb-false}
 use lib.Dec.{ltb, leb, eqb}
-use lib.ListN.{getD}
 use Rattle.rules.specs.Refusals.{if_then_else_}
 use Rattle.rules.specs.TypeTable.{TypeTable, rowCount, memberCount, kindAt, aAt, bAt, cAt, ordinalAt, rowOf, known, contentOf}
 use Rattle.rules.specs.Sound.{risingMembers, membersExist, rowFits}

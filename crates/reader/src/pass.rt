@@ -15,7 +15,7 @@ use layout::prepare;
 use layout::root_allowed;
 use rules::Fault;
 use rules::Place;
-use walk::walk::value;
+use walk::cycle::value;
 use walk_leaves::claims::claim;
 use walk_leaves::cursor::Cursor;
 use walk_leaves::cursor::Walked;

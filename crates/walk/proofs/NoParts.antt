@@ -6,7 +6,7 @@ use mathlib.Core.Path.{_≡_, refl, sym, _∙_}
 use Prim.Native.Nat.{ℕ, _+_, _*_, _≤_, _<_}
 use native.Mathlib.Omega.{arith}
 use lib.Dec.{eqb}
-use lib.ListN.{length, getD}
+use lib.ListN.{length}
 use Rattle.rules.specs.TypeTable.{TypeTable, kindAt, aAt, bAt, memberRows}
 use Rattle.rules.specs.Sizes.{fieldsFrom, fieldsOf, sizeOf}
 use Rattle.rules.specs.Decode as D

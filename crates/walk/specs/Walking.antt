@@ -1,4 +1,4 @@
--- What the functions of walk.rt promise.
+-- What the functions of cycle.rt promise.
 -- Assumes nothing.
 use mathlib.Core.List.{List}
 use Prim.Native.Nat.{ℕ, _*_}

@@ -1,5 +1,5 @@
 // Records that lead out of line: what stands in line is judged, given and claimed here; what it leads to is walked by the
-// functions of walk.rt.
+// functions of cycle.rt.
 ghost use Prim.Native.Nat.{_≤_, _<_};
 ghost use lib.ListN.{length};
 ghost use Rattle.walk_leaves.specs.Doing.{Ask};

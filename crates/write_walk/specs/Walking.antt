@@ -1,4 +1,4 @@
--- What the functions of walk.rt ask for and promise.
+-- What the functions of cycle.rt ask for and promise.
 -- Assumes nothing.
 use mathlib.Core.List.{List}
 use mathlib.Core.Path.{_≡_}

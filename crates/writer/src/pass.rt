@@ -17,7 +17,7 @@ use write_leaves::cursor::Cursor;
 use write_leaves::cursor::Wrote;
 use write_leaves::cursor::fault_at;
 use write_leaves::cursor::put_zeros;
-use write_walk::walk::value;
+use write_walk::cycle::value;
 
 // The primary object: the root's value at 0, and its fill.
 fn primary(

@@ -1,4 +1,4 @@
--- The six functions of walk.rt that call each other meet their contracts. For each function: what its callees promise, its
+-- The six functions of cycle.rt that call each other meet their contracts. For each function: what its callees promise, its
 -- loop's invariant and measure, and an answer to each need that `search needs` does not find; those that it finds stand at the
 -- end, where all is put together, but for some that would take the last declaration past antt's limit of steps.
 --
@@ -40,24 +40,24 @@ use Rattle.walk.proofs.Values.{value-bool, value-number, value-handle, 
 use Rattle.walk.proofs.NoParts.{value-empty, array-ask, array-done, number-ask, string-ask}
 use Rattle.walk.proofs.Turns.{Walking, walking-start, state-known, turn-fill, turn-filled, turn-fill-refused, turn-into, turn-call, turn-called, turn-call-refused, turn-out, turn-done}
 use Rattle.walk.proofs.OneMember.{one-member, member-asks, fill-asks, member-refused, member-filled}
-use Rattle.walk.proofs.walk.composite.Reads as composite
-use Rattle.walk.proofs.walk.composite.Kinds as composite-kinds
-use Rattle.walk.proofs.walk.+composite+content+elements+envelopes+out_of_line+value.Lts-composite as composite-lts
-use Rattle.walk.proofs.walk.content.Reads as content
-use Rattle.walk.proofs.walk.content.Kinds as content-kinds
-use Rattle.walk.proofs.walk.+composite+content+elements+envelopes+out_of_line+value.Lts-content as content-lts
-use Rattle.walk.proofs.walk.elements.Reads as elements
-use Rattle.walk.proofs.walk.elements.Kinds as elements-kinds
-use Rattle.walk.proofs.walk.+composite+content+elements+envelopes+out_of_line+value.Lts-elements as elements-lts
-use Rattle.walk.proofs.walk.envelopes.Reads as envelopes
-use Rattle.walk.proofs.walk.envelopes.Kinds as envelopes-kinds
-use Rattle.walk.proofs.walk.+composite+content+elements+envelopes+out_of_line+value.Lts-envelopes as envelopes-lts
-use Rattle.walk.proofs.walk.out_of_line.Reads as out-of-line
-use Rattle.walk.proofs.walk.out_of_line.Kinds as out-of-line-kinds
-use Rattle.walk.proofs.walk.+composite+content+elements+envelopes+out_of_line+value.Lts-out_of_line as out-of-line-lts
-use Rattle.walk.proofs.walk.value.Reads as value
-use Rattle.walk.proofs.walk.value.Kinds as value-kinds
-use Rattle.walk.proofs.walk.+composite+content+elements+envelopes+out_of_line+value.Lts-value as value-lts
+use Rattle.walk.proofs.cycle.composite.Reads as composite
+use Rattle.walk.proofs.cycle.composite.Kinds as composite-kinds
+use Rattle.walk.proofs.cycle.+composite+content+elements+envelopes+out_of_line+value.Lts-composite as composite-lts
+use Rattle.walk.proofs.cycle.content.Reads as content
+use Rattle.walk.proofs.cycle.content.Kinds as content-kinds
+use Rattle.walk.proofs.cycle.+composite+content+elements+envelopes+out_of_line+value.Lts-content as content-lts
+use Rattle.walk.proofs.cycle.elements.Reads as elements
+use Rattle.walk.proofs.cycle.elements.Kinds as elements-kinds
+use Rattle.walk.proofs.cycle.+composite+content+elements+envelopes+out_of_line+value.Lts-elements as elements-lts
+use Rattle.walk.proofs.cycle.envelopes.Reads as envelopes
+use Rattle.walk.proofs.cycle.envelopes.Kinds as envelopes-kinds
+use Rattle.walk.proofs.cycle.+composite+content+elements+envelopes+out_of_line+value.Lts-envelopes as envelopes-lts
+use Rattle.walk.proofs.cycle.out_of_line.Reads as out-of-line
+use Rattle.walk.proofs.cycle.out_of_line.Kinds as out-of-line-kinds
+use Rattle.walk.proofs.cycle.+composite+content+elements+envelopes+out_of_line+value.Lts-out_of_line as out-of-line-lts
+use Rattle.walk.proofs.cycle.value.Reads as value
+use Rattle.walk.proofs.cycle.value.Kinds as value-kinds
+use Rattle.walk.proofs.cycle.+composite+content+elements+envelopes+out_of_line+value.Lts-value as value-lts
 use Rattle.walk_leaves.proofs.claims.fill_at.Reads as fill-at-reads
 use Rattle.walk_leaves.proofs.cursor.gave.Reads as gave-reads
 use Rattle.walk_leaves.proofs.cursor.refused.Reads as refused-reads
@@ -74,8 +74,8 @@ use Rattle.walk_leaves.proofs.scalars.boolean.Reads as boolean-reads
 use Rattle.walk_leaves.proofs.scalars.handle.Reads as handle-reads
 use Rattle.walk_leaves.proofs.scalars.number.Reads as number-reads
 use Rattle.walk_leaves.proofs.scalars.numbers.Reads as numbers-reads
-use Rattle.walk.proofs.walk.+composite+content+elements+envelopes+out_of_line+value.{statement}
-use Rattle.walk.proofs.walk.+composite+content+elements+envelopes+out_of_line+value.Tie.{close}
+use Rattle.walk.proofs.cycle.+composite+content+elements+envelopes+out_of_line+value.{statement}
+use Rattle.walk.proofs.cycle.+composite+content+elements+envelopes+out_of_line+value.Tie.{close}
 
 abbrev μ-composite : Measures 7 composite-kinds.ps ℕ
 μ-composite κs a = a .1 .1 .1 .1 .1 .1 .1 .1 .0 * 1048576 + 4 * (a .1 .1 .1 .1 .1 .1 .1 .1 .1 .0) + 1

@@ -1,4 +1,4 @@
--- The eight functions of walk.rt that call each other meet their contracts. For each function: what its callees promise, its
+-- The eight functions of cycle.rt that call each other meet their contracts. For each function: what its callees promise, its
 -- loop's invariant and measure, and an answer to each need that `search needs` does not find; those that it finds stand at the
 -- end, where all is put together.
 --
@@ -30,30 +30,30 @@ use Rattle.write_walk.proofs.Contents.{put-rises, content-unknown, payl
 use Rattle.write_walk.proofs.TableEnvelopes.{EnvelopesLeft, envelopes-start, envelopes-end, envelope-asks, one-ended, one-wrong, one-absent, content-asks, one-present, one-refused}
 use borrow.Fn.Kinds.{In}
 use borrow.Fn.PlainCycle.{Measures, is, falls, and}
-use Rattle.write_walk.proofs.walk.composite.Reads as composite
-use Rattle.write_walk.proofs.walk.composite.Kinds as composite-kinds
-use Rattle.write_walk.proofs.walk.+composite+content+elements+envelopes+object+out_of_line+single+value.Lts-composite as composite-lts
-use Rattle.write_walk.proofs.walk.content.Reads as content
-use Rattle.write_walk.proofs.walk.content.Kinds as content-kinds
-use Rattle.write_walk.proofs.walk.+composite+content+elements+envelopes+object+out_of_line+single+value.Lts-content as content-lts
-use Rattle.write_walk.proofs.walk.elements.Reads as elements
-use Rattle.write_walk.proofs.walk.elements.Kinds as elements-kinds
-use Rattle.write_walk.proofs.walk.+composite+content+elements+envelopes+object+out_of_line+single+value.Lts-elements as elements-lts
-use Rattle.write_walk.proofs.walk.envelopes.Reads as envelopes
-use Rattle.write_walk.proofs.walk.envelopes.Kinds as envelopes-kinds
-use Rattle.write_walk.proofs.walk.+composite+content+elements+envelopes+object+out_of_line+single+value.Lts-envelopes as envelopes-lts
-use Rattle.write_walk.proofs.walk.object.Reads as object
-use Rattle.write_walk.proofs.walk.object.Kinds as object-kinds
-use Rattle.write_walk.proofs.walk.+composite+content+elements+envelopes+object+out_of_line+single+value.Lts-object as object-lts
-use Rattle.write_walk.proofs.walk.out_of_line.Reads as out-of-line
-use Rattle.write_walk.proofs.walk.out_of_line.Kinds as out-of-line-kinds
-use Rattle.write_walk.proofs.walk.+composite+content+elements+envelopes+object+out_of_line+single+value.Lts-out_of_line as out-of-line-lts
-use Rattle.write_walk.proofs.walk.value.Reads as value
-use Rattle.write_walk.proofs.walk.value.Kinds as value-kinds
-use Rattle.write_walk.proofs.walk.+composite+content+elements+envelopes+object+out_of_line+single+value.Lts-value as value-lts
-use Rattle.write_walk.proofs.walk.single.Reads as single
-use Rattle.write_walk.proofs.walk.single.Kinds as single-kinds
-use Rattle.write_walk.proofs.walk.+composite+content+elements+envelopes+object+out_of_line+single+value.Lts-single as single-lts
+use Rattle.write_walk.proofs.cycle.composite.Reads as composite
+use Rattle.write_walk.proofs.cycle.composite.Kinds as composite-kinds
+use Rattle.write_walk.proofs.cycle.+composite+content+elements+envelopes+object+out_of_line+single+value.Lts-composite as composite-lts
+use Rattle.write_walk.proofs.cycle.content.Reads as content
+use Rattle.write_walk.proofs.cycle.content.Kinds as content-kinds
+use Rattle.write_walk.proofs.cycle.+composite+content+elements+envelopes+object+out_of_line+single+value.Lts-content as content-lts
+use Rattle.write_walk.proofs.cycle.elements.Reads as elements
+use Rattle.write_walk.proofs.cycle.elements.Kinds as elements-kinds
+use Rattle.write_walk.proofs.cycle.+composite+content+elements+envelopes+object+out_of_line+single+value.Lts-elements as elements-lts
+use Rattle.write_walk.proofs.cycle.envelopes.Reads as envelopes
+use Rattle.write_walk.proofs.cycle.envelopes.Kinds as envelopes-kinds
+use Rattle.write_walk.proofs.cycle.+composite+content+elements+envelopes+object+out_of_line+single+value.Lts-envelopes as envelopes-lts
+use Rattle.write_walk.proofs.cycle.object.Reads as object
+use Rattle.write_walk.proofs.cycle.object.Kinds as object-kinds
+use Rattle.write_walk.proofs.cycle.+composite+content+elements+envelopes+object+out_of_line+single+value.Lts-object as object-lts
+use Rattle.write_walk.proofs.cycle.out_of_line.Reads as out-of-line
+use Rattle.write_walk.proofs.cycle.out_of_line.Kinds as out-of-line-kinds
+use Rattle.write_walk.proofs.cycle.+composite+content+elements+envelopes+object+out_of_line+single+value.Lts-out_of_line as out-of-line-lts
+use Rattle.write_walk.proofs.cycle.value.Reads as value
+use Rattle.write_walk.proofs.cycle.value.Kinds as value-kinds
+use Rattle.write_walk.proofs.cycle.+composite+content+elements+envelopes+object+out_of_line+single+value.Lts-value as value-lts
+use Rattle.write_walk.proofs.cycle.single.Reads as single
+use Rattle.write_walk.proofs.cycle.single.Kinds as single-kinds
+use Rattle.write_walk.proofs.cycle.+composite+content+elements+envelopes+object+out_of_line+single+value.Lts-single as single-lts
 use Rattle.write_leaves.proofs.cursor.passed_on.Reads as passed-on-reads
 use Rattle.nesting.proofs.has_parts.Reads as has-parts-reads
 use Rattle.nesting.proofs.next_step.Reads as next-step-reads
@@ -78,9 +78,9 @@ use Rattle.write_leaves.proofs.scalars.boolean.Reads as boolean-reads
 use Rattle.write_leaves.proofs.scalars.handle.Reads as handle-reads
 use Rattle.write_leaves.proofs.scalars.number.Reads as number-reads
 use Rattle.write_leaves.proofs.scalars.numbers.Reads as numbers-reads
-use Rattle.write_walk.proofs.walk.least.Reads as least-reads
-use Rattle.write_walk.proofs.walk.+composite+content+elements+envelopes+object+out_of_line+single+value.{statement}
-use Rattle.write_walk.proofs.walk.+composite+content+elements+envelopes+object+out_of_line+single+value.Tie.{close}
+use Rattle.write_walk.proofs.cycle.least.Reads as least-reads
+use Rattle.write_walk.proofs.cycle.+composite+content+elements+envelopes+object+out_of_line+single+value.{statement}
+use Rattle.write_walk.proofs.cycle.+composite+content+elements+envelopes+object+out_of_line+single+value.Tie.{close}
 
 abbrev μ-composite : Measures 6 composite-kinds.ps ℕ
 μ-composite κs a = a .1 .1 .1 .1 .1 .1 .1 .0 * 1048576 + 4 * (a .1 .1 .1 .1 .1 .1 .1 .1 .0) + 1
