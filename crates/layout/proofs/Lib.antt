@@ -6,3 +6,6 @@ pub mod Members
 pub mod Keeping
 pub mod Climbing
 pub mod Roots
+pub mod ByKind
+pub mod Below
+pub mod Readiness

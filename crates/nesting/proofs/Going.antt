@@ -12,9 +12,9 @@ use Rattle.rules.specs.Sizes.{layoutOf, sizeOf, fieldsSize}
 use Rattle.layout.proofs.Rows.{array-fits, struct-fits, sound-row}
 use Rattle.nesting.specs.declared.Level.{Level}
 use Rattle.nesting.specs.Nesting.{hasParts, nextPart}
-use Rattle.nesting.specs.Ready.{Ready}
-use Rattle.nesting.proofs.ByKind.{fits-kind}
-use Rattle.nesting.proofs.Readiness.{row-few, ready-at}
+use Rattle.layout.specs.Ready.{Ready}
+use Rattle.layout.proofs.ByKind.{fits-kind}
+use Rattle.layout.proofs.Readiness.{row-few, ready-at}
 use Rattle.nesting.proofs.Items.{Item, value, itemsOf, sizeOfItems}
 use Rattle.nesting.proofs.Left.{fieldsLeft, no-members-left, no-elements-left}
 use Rattle.nesting.proofs.Starts.{Parts, elements, parts-of, startOf}

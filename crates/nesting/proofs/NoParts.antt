@@ -11,8 +11,8 @@ use lib.ListN.{getD}
 use Rattle.rules.specs.TypeTable.{TypeTable, kindAt, bAt, memberRows}
 use Rattle.rules.specs.Sizes.{fieldsFrom, fieldsOf, structSize, layoutAs, sizeOf}
 use Rattle.nesting.specs.Nesting.{hasParts}
-use Rattle.nesting.specs.Ready.{Outside}
-use Rattle.nesting.proofs.ByKind.{size-kind}
+use Rattle.layout.specs.Ready.{Outside}
+use Rattle.layout.proofs.ByKind.{size-kind}
 
 -- ---- tests of two kinds
 

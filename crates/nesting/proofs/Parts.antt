@@ -19,7 +19,7 @@ use Rattle.layout.proofs.Structs.{round-least}
 use Rattle.layout.proofs.Keeping.{kept-alignment, sound-bounded}
 use Rattle.nesting.specs.declared.Level.{Level}
 use Rattle.nesting.specs.Nesting.{nextOffset, hasParts, nextPart, nextPlace}
-use Rattle.nesting.proofs.ByKind.{fits-kind, array-below}
+use Rattle.layout.proofs.ByKind.{fits-kind, array-below}
 use Rattle.nesting.proofs.Fields.{alignment-last, alignment-next}
 use Rattle.nesting.proofs.Left.{advanced, fieldsLeft, next-element, next-member}
 use Rattle.nesting.proofs.Starts.{Parts, members, elements, parts-of, member-below}

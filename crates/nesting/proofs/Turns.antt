@@ -13,8 +13,8 @@ use Rattle.nesting.specs.declared.Level.{Level}
 use Rattle.nesting.specs.declared.Step.{Step}
 use Rattle.nesting.specs.declared.Step.the-variants.{Fill, Into, Call, Out, Done}
 use Rattle.nesting.specs.Nesting.{hasParts, nextPart, nextPlace, nextStep}
-use Rattle.nesting.specs.Ready.{Ready}
-use Rattle.nesting.proofs.Readiness.{row-size}
+use Rattle.layout.specs.Ready.{Ready}
+use Rattle.layout.proofs.Readiness.{row-size}
 use Rattle.nesting.proofs.Items.{Item, value, gap, itemsOf, sizeOfItems}
 use Rattle.nesting.proofs.Left.{advanced, fieldsLeft}
 use Rattle.nesting.proofs.Starts.{startOf, start-size}

@@ -20,7 +20,7 @@ use Rattle.rules.specs.Walk as W
 use Rattle.rules.specs.Answers.{walk, finished}
 use Rattle.layout.proofs.Rows.{sound-rows, sound-size}
 use Rattle.layout.proofs.Keeping.{few-rows, kept-size}
-use Rattle.nesting.specs.Ready.{Ready}
+use Rattle.layout.specs.Ready.{Ready}
 use Rattle.reader.specs.declared.Reading.{Reading}
 use Rattle.reader.specs.declared.Reading.the-variants as Both
 use Rattle.walk_leaves.specs.declared.cursor.Cursor.{Cursor}

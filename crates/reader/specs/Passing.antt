@@ -14,7 +14,7 @@ use Rattle.rules.specs.Trace.{objectList}
 use Rattle.rules.specs.Decode.{Message, traceOf}
 use Rattle.rules.specs.Answers as A
 use Rattle.rules.specs.Answers.{Lists, walk, finished, requireLength, judged}
-use Rattle.nesting.specs.Ready.{Ready}
+use Rattle.layout.specs.Ready.{Ready}
 use Rattle.reader.specs.declared.Verdict.{Verdict}
 use Rattle.reader.specs.declared.Lengths.{Lengths}
 use Rattle.reader.specs.declared.Reading.{Reading}

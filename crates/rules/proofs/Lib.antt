@@ -11,3 +11,4 @@ pub mod Unknown
 pub mod WalkTwins
 pub mod Demands
 pub mod Rooms
+pub mod Edition

@@ -15,7 +15,7 @@ use Rattle.rules.specs.Records.{readCount, readPresence, readTable, readNumber,
 use Rattle.rules.specs.Envelope.{decodeWord}
 use Rattle.rules.specs.Walk as W
 use Rattle.layout.proofs.Rows.{below-step, layout-below}
-use Rattle.nesting.proofs.Below.{AllBelow, FieldsBelow, fields-same, fields-below}
+use Rattle.layout.proofs.Below.{AllBelow, FieldsBelow, fields-same, fields-below}
 use Rattle.walk_leaves.specs.Parts.{boolAt, handleAt}
 
 -- Rows below a row are walked as any.

@@ -10,11 +10,11 @@ use Rattle.rules.specs.TypeTable.{TypeTable, rowCount, known}
 use Rattle.rules.specs.Sizes.{sizeOf}
 use Rattle.rules.specs.Envelope.{contentOfEightBytes}
 use Rattle.rules.specs.Walk as W
-use Rattle.nesting.specs.declared.Ordinal.{Ordinal}
-use Rattle.nesting.specs.declared.Ordinal.the-variants.{Known, Unknown}
-use Rattle.nesting.specs.Ordinals.{OrdinalFits}
-use Rattle.nesting.specs.Ready.{Ready}
-use Rattle.nesting.proofs.Readiness.{row-in-use, row-size, size-small, ready-at}
+use Rattle.ordinals.specs.declared.Ordinal.{Ordinal}
+use Rattle.ordinals.specs.declared.Ordinal.the-variants.{Known, Unknown}
+use Rattle.ordinals.specs.Ordinals.{OrdinalFits}
+use Rattle.layout.specs.Ready.{Ready}
+use Rattle.layout.proofs.Readiness.{row-in-use, row-size, size-small, ready-at}
 use Rattle.walk_leaves.specs.declared.cursor.Cursor.{Cursor}
 use Rattle.walk_leaves.specs.declared.cursor.Walked.{Walked}
 use Rattle.walk_leaves.specs.declared.cursor.Walked.the-variants.{On, Refused}

@@ -13,11 +13,11 @@ use Rattle.rules.specs.Decode as D
 use Rattle.rules.specs.Decode.{Message}
 use Rattle.rules.specs.Walk as W
 use Rattle.nesting.specs.Nesting.{hasParts}
-use Rattle.nesting.specs.Ready.{Ready, widthAllowed}
-use Rattle.nesting.proofs.Below.{AllBelow}
-use Rattle.nesting.proofs.ByKind.{size-array, size-string, number-width, width-positive, array-below}
+use Rattle.layout.specs.Ready.{Ready, widthAllowed}
+use Rattle.layout.proofs.Below.{AllBelow}
+use Rattle.layout.proofs.ByKind.{size-array, size-string, number-width, width-positive, array-below}
 use Rattle.nesting.proofs.NoParts.{array-left, struct-empty, array-numbers, size-empty}
-use Rattle.nesting.proofs.Readiness.{row-few, ready-at}
+use Rattle.layout.proofs.Readiness.{row-few, ready-at}
 use Rattle.walk_leaves.specs.declared.cursor.Cursor.{Cursor}
 use Rattle.walk_leaves.specs.declared.cursor.Walked.{Walked}
 use Rattle.walk_leaves.specs.declared.cursor.Walked.the-variants.{On}

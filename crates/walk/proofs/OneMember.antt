@@ -17,11 +17,11 @@ use Rattle.rules.specs.Decode as D
 use Rattle.rules.specs.Walk as W
 use Rattle.layout.proofs.Rows.{both}
 use Rattle.nesting.specs.Nesting.{hasParts}
-use Rattle.nesting.specs.Ready.{Ready}
-use Rattle.nesting.proofs.Below.{AllBelow, more}
+use Rattle.layout.specs.Ready.{Ready}
+use Rattle.layout.proofs.Below.{AllBelow, more}
 use Rattle.nesting.proofs.Items.{Item, value, gap, itemsOf, sizeOfItems, fields-size}
 use Rattle.nesting.proofs.Left.{fieldsLeft}
-use Rattle.nesting.proofs.Readiness.{row-size, ready-at}
+use Rattle.layout.proofs.Readiness.{row-size, ready-at}
 use Rattle.nesting.proofs.Starts.{startOf, struct-fields, members-below, start-size}
 use Rattle.walk_leaves.specs.declared.cursor.Cursor.{Cursor}
 use Rattle.walk_leaves.specs.declared.cursor.Walked.{Walked}

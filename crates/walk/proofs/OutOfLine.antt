@@ -12,12 +12,12 @@ use Rattle.rules.specs.Decode as D
 use Rattle.rules.specs.Decode.{Decoded}
 use Rattle.rules.specs.Envelope.{contentOfEightBytes}
 use Rattle.rules.specs.Walk as W
-use Rattle.nesting.specs.declared.Ordinal.{Ordinal}
-use Rattle.nesting.specs.Ordinals.{ordinalIs}
-use Rattle.nesting.specs.Ready.{Ready}
-use Rattle.nesting.proofs.ByKind.{size-vector, size-box, size-table, size-union}
-use Rattle.nesting.proofs.Readiness.{row-size, few-elements}
-use Rattle.nesting.proofs.Members.{vector-in-use, box-in-use}
+use Rattle.ordinals.specs.declared.Ordinal.{Ordinal}
+use Rattle.ordinals.specs.Ordinals.{ordinalIs}
+use Rattle.layout.specs.Ready.{Ready}
+use Rattle.layout.proofs.ByKind.{size-vector, size-box, size-table, size-union}
+use Rattle.layout.proofs.Readiness.{row-size, few-elements}
+use Rattle.ordinals.proofs.Members.{vector-in-use, box-in-use}
 use Rattle.walk_leaves.specs.declared.cursor.Cursor.{Cursor}
 use Rattle.walk_leaves.specs.declared.cursor.Walked.{Walked}
 use Rattle.walk_leaves.specs.declared.cursor.Walked.the-variants.{On, Refused}

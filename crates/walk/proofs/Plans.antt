@@ -13,12 +13,12 @@ use Rattle.rules.specs.Sound.{soundness}
 use Rattle.rules.specs.Decode as D
 use Rattle.rules.specs.Decode.{Message, Decoder}
 use Rattle.rules.specs.Walk as W
-use Rattle.nesting.specs.declared.Plan.{Plan}
-use Rattle.nesting.specs.Plans.{partsSize, partsOf, Runnable, planOf, Planned}
-use Rattle.nesting.specs.Ready.{Ready}
-use Rattle.nesting.proofs.ByKind.{width-positive}
-use Rattle.nesting.proofs.Plans.{Flat, a-bool, a-number, AllFlat, none, more, FlatRow, bool-row, struct-row, flat-size, flat-runnable, plan-flat, flat-row-size}
-use Rattle.nesting.proofs.Readiness.{row-size}
+use Rattle.plans.specs.declared.Plan.{Plan}
+use Rattle.plans.specs.Plans.{partsSize, partsOf, Runnable, planOf, Planned}
+use Rattle.layout.specs.Ready.{Ready}
+use Rattle.layout.proofs.ByKind.{width-positive}
+use Rattle.plans.proofs.Plans.{Flat, a-bool, a-number, AllFlat, none, more, FlatRow, bool-row, struct-row, flat-size, flat-runnable, plan-flat, flat-row-size}
+use Rattle.layout.proofs.Readiness.{row-size}
 use Rattle.nesting.proofs.Starts.{members-below}
 use Rattle.walk_leaves.specs.declared.cursor.Cursor.{Cursor}
 use Rattle.walk_leaves.specs.declared.cursor.Walked.{Walked}

@@ -13,7 +13,7 @@ use Rattle.rules.specs.Decode as D
 use Rattle.rules.specs.Decode.{Message}
 use Rattle.rules.specs.Walk as W
 use Rattle.nesting.specs.Nesting.{hasParts}
-use Rattle.nesting.proofs.ByKind.{array-below}
+use Rattle.layout.proofs.ByKind.{array-below}
 use Rattle.nesting.proofs.Items.{itemsOf}
 use Rattle.nesting.proofs.Left.{fieldsLeft}
 use Rattle.nesting.proofs.Starts.{Parts, members, elements, parts-of, startOf, struct-fields, array-fields, members-below}

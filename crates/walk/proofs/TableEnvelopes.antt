@@ -15,9 +15,9 @@ use Rattle.rules.specs.TypeTable.{TypeTable, aAt, bAt}
 use Rattle.rules.specs.Decode as D
 use Rattle.rules.specs.Envelope.{contentOfEightBytes}
 use Rattle.rules.specs.Walk as W
-use Rattle.nesting.specs.declared.Ordinal.{Ordinal}
-use Rattle.nesting.specs.Ordinals.{ordinalIs, halved}
-use Rattle.nesting.proofs.Members.{MembersRise, ordinal-content}
+use Rattle.ordinals.specs.declared.Ordinal.{Ordinal}
+use Rattle.ordinals.specs.Ordinals.{ordinalIs, halved}
+use Rattle.ordinals.proofs.Members.{MembersRise, ordinal-content}
 use Rattle.walk_leaves.specs.declared.cursor.Cursor.{Cursor}
 use Rattle.walk_leaves.specs.declared.cursor.Walked.{Walked}
 use Rattle.walk_leaves.specs.declared.cursor.Walked.the-variants.{On, Refused}

@@ -9,7 +9,7 @@ use lib.ListN.{length}
 use Rattle.rules.specs.TypeTable.{TypeTable, kindAt, aAt, bAt, cAt}
 use Rattle.rules.specs.Envelope.{decodeWord}
 use Rattle.rules.specs.Walk as W
-use Rattle.nesting.proofs.ByKind.{size-bool, size-number, size-handle, size-array, size-string}
+use Rattle.layout.proofs.ByKind.{size-bool, size-number, size-handle, size-array, size-string}
 use Rattle.walk_leaves.specs.declared.cursor.Cursor.{Cursor}
 use Rattle.walk_leaves.specs.declared.cursor.Walked.{Walked}
 use Rattle.walk_leaves.specs.Doing.{message}

@@ -8,13 +8,13 @@ ghost use Rattle.rules.specs.TypeTable.{typeTable, kindAt};
 ghost use Rattle.rules.specs.Sizes.{sizeOf};
 ghost use Rattle.walk_leaves.specs.Doing.{Ask, cursorAt};
 ghost use Rattle.nesting.specs.Nesting.{hasParts};
-ghost use Rattle.nesting.specs.Ordinals.{OrdinalFits};
-ghost use Rattle.nesting.specs.Ready.{Ready, Outside};
+ghost use Rattle.ordinals.specs.Ordinals.{OrdinalFits};
+ghost use Rattle.layout.specs.Ready.{Ready, Outside};
 ghost use Rattle.walk.specs.Walking.{ValueDid, ElementsDid, EnvelopesDid, ContentDid};
 use nesting::Level;
 use nesting::NESTED;
-use nesting::Ordinal;
 use nesting::Step;
+use ordinals::Ordinal;
 use walk_leaves::claims::fill_at;
 use walk_leaves::cursor::Cursor;
 use walk_leaves::cursor::Walked;
@@ -158,7 +158,7 @@ fn elements(
         return Walked::On(numbers(bytes, values, width, count, at, c));
     }
     let size = words::number_at(sizes, row) as usize;
-    let plan = nesting::plan_of(rows, members, alignments, row);
+    let plan = plans::plan_of(rows, members, alignments, row);
     if 0 < plan.count {
         return planned(bytes, values, plan, size, count, at, c);
     }
@@ -219,7 +219,7 @@ fn composite(
     let first = words::number_at(rows, row * 4 + 1) as usize;
     let part = words::number_at(members, first * 2 + 1) as usize;
     if words::number_at(rows, part * 4) <= 2 {
-        let plan = nesting::plan_of(rows, members, alignments, row);
+        let plan = plans::plan_of(rows, members, alignments, row);
         if 0 < plan.count {
             let size = words::number_at(sizes, row) as usize;
             return planned(bytes, values, plan, size, 1, at, c);
@@ -500,7 +500,7 @@ fn envelopes(
             }
             d = gave(values, 0, d);
         } else {
-            let what = nesting::ordinal_of(members, first, known, i as u64);
+            let what = ordinals::ordinal_of(members, first, known, i as u64);
             let e = gave(values, 1, d);
             match content(
                 rows,

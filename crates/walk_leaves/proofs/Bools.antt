@@ -19,9 +19,9 @@ use Rattle.words.specs.Bits.{allBits}
 use Rattle.words.proofs.Bits.{part-none-above}
 use Rattle.words.proofs.Loads.{word-byte}
 use Rattle.layout.proofs.Rows.{both}
-use Rattle.nesting.specs.declared.Plan.{Plan}
-use Rattle.nesting.specs.Plans.{widthLayout, partsSize, partsFrom, partsOf}
-use Rattle.nesting.specs.Ready.{widthAllowed}
+use Rattle.plans.specs.declared.Plan.{Plan}
+use Rattle.plans.specs.Plans.{widthLayout, partsSize, partsFrom, partsOf}
+use Rattle.layout.specs.Ready.{widthAllowed}
 use Rattle.walk_leaves.specs.declared.cursor.Cursor.{Cursor}
 use Rattle.walk_leaves.specs.declared.cursor.Walked.the-variants.{On}
 use Rattle.walk_leaves.specs.Doing.{message, Ask}

@@ -15,10 +15,10 @@ use Rattle.rules.specs.Sizes.{Field, field}
 use Rattle.rules.specs.Decode as D
 use Rattle.rules.specs.Envelope.{decodeWord}
 use Rattle.words.proofs.Stores.{sets-past}
-use Rattle.nesting.specs.Plans.{widthSize, widthLayout, partsSize, partsFrom, Runnable}
-use Rattle.nesting.specs.Ready.{someTable, widthAllowed}
+use Rattle.plans.specs.Plans.{widthSize, widthLayout, partsSize, partsFrom, Runnable}
+use Rattle.layout.specs.Ready.{someTable, widthAllowed}
 use Rattle.nesting.proofs.Items.{itemsOf, sizeOfItems, fields-size}
-use Rattle.nesting.proofs.Plans.{parts-next, parts-none, size-least}
+use Rattle.plans.proofs.Plans.{parts-next, parts-none, size-least}
 use Rattle.walk_leaves.specs.declared.cursor.Cursor.{Cursor}
 use Rattle.walk_leaves.specs.declared.cursor.Walked.{Walked}
 use Rattle.walk_leaves.specs.declared.cursor.Walked.the-variants.{On, Refused}

@@ -10,7 +10,7 @@ use Rattle.rules.specs.Sizes.{Field}
 use Rattle.rules.specs.Decode.{Message, Decoder}
 use Rattle.rules.specs.Envelope.{decodeWord}
 use Rattle.rules.specs.Walk as W
-use Rattle.nesting.specs.Plans.{widthLayout}
+use Rattle.plans.specs.Plans.{widthLayout}
 use Rattle.walk_leaves.specs.declared.cursor.Cursor.{Cursor}
 use Rattle.walk_leaves.specs.declared.cursor.Walked.{Walked}
 use Rattle.walk_leaves.specs.Doing.{message, Did, Ask}

@@ -6,8 +6,8 @@ ghost use Prim.Native.Nat.{_+_, _*_, _≤_, _<_};
 ghost use lib.ListN.{length};
 ghost use Rattle.rules.specs.Decode.{elements, fill};
 ghost use Rattle.rules.specs.Sizes.{field};
-ghost use Rattle.nesting.specs.Plans.{partsSize, partsFrom, partsOf, Runnable};
-ghost use Rattle.nesting.specs.Ready.{widthAllowed};
+ghost use Rattle.plans.specs.Plans.{partsSize, partsFrom, partsOf, Runnable};
+ghost use Rattle.layout.specs.Ready.{widthAllowed};
 ghost use Rattle.walk_leaves.specs.Doing.{Ask};
 ghost use Rattle.walk_leaves.specs.Parts.{DidValues, DidNeither};
 ghost use Rattle.walk_leaves.specs.Planning.{widthAt, partsAt, DidAsked};
@@ -17,7 +17,7 @@ use crate::cursor::Walked;
 use crate::scalars::boolean;
 use crate::scalars::number;
 use crate::scalars::numbers;
-use nesting::Plan;
+use plans::Plan;
 
 // A bool, or a number, which is not looked at where the lent list has no room left.
 fn part(bytes: &[u8], values: &mut [u64], width: u32, at: usize, c: Cursor) -> Walked
@@ -71,7 +71,7 @@ fn one(
     while i < count {
         let width = widths[i];
         let fill = fills[i] as usize;
-        let stop = place + nesting::width_size(width);
+        let stop = place + plans::width_size(width);
         match part(bytes, values, width, place, d) {
             Walked::On(e) => match filled(bytes, stop, fill, e) {
                 Walked::On(g) => {

@@ -23,7 +23,7 @@ use Rattle.rules.specs.Decode as D
 use Rattle.rules.specs.Decode.{Message, Decoder, got}
 use Rattle.rules.specs.Records.{Presence, absent, present, neither, presence, unless, readIf, countRecord, readCount}
 use Rattle.rules.specs.Walk as W
-use Rattle.nesting.specs.Ready.{someTable}
+use Rattle.layout.specs.Ready.{someTable}
 use Rattle.walk_leaves.specs.declared.cursor.Cursor.{Cursor}
 use Rattle.walk_records.specs.declared.records.Count.{Count}
 use Rattle.walk_records.specs.declared.records.Count.the-variants.{Absent, Present, Wrong}

@@ -21,7 +21,7 @@ use Rattle.rules.specs.Decode.{Message, Decoder, got, wrong}
 use Rattle.rules.specs.Records.{presence, readTable}
 use Rattle.rules.specs.Envelope.{contentOfEightBytes}
 use Rattle.rules.specs.Walk as W
-use Rattle.nesting.proofs.Edition.{envelope-size, content-read}
+use Rattle.rules.proofs.Edition.{envelope-size, content-read}
 use Rattle.walk_leaves.specs.declared.cursor.Cursor.{Cursor}
 use Rattle.walk_leaves.specs.declared.cursor.Walked.{Walked}
 use Rattle.walk_records.specs.declared.records.Opening.{Opening}

@@ -20,11 +20,11 @@ use Rattle.rules.specs.Decode.{Decoded, went, stopped, got}
 use Rattle.rules.specs.Records.{isKnown, readIf, unless, readNumber}
 use Rattle.rules.specs.Envelope.{contentOfEightBytes}
 use Rattle.rules.specs.Walk as W
-use Rattle.nesting.specs.declared.Ordinal.{Ordinal}
-use Rattle.nesting.specs.Ordinals.{ordinalIs, ContentIs, halved, Rising, OrdinalFits}
-use Rattle.nesting.proofs.Edition.{envelope-size, content-read}
-use Rattle.nesting.proofs.Ordinals.{halved-content}
-use Rattle.nesting.proofs.Members.{MembersRise, ordinal-fits}
+use Rattle.ordinals.specs.declared.Ordinal.{Ordinal}
+use Rattle.ordinals.specs.Ordinals.{ordinalIs, ContentIs, halved, Rising, OrdinalFits}
+use Rattle.rules.proofs.Edition.{envelope-size, content-read}
+use Rattle.ordinals.proofs.Ordinals.{halved-content}
+use Rattle.ordinals.proofs.Members.{MembersRise, ordinal-fits}
 use Rattle.walk_leaves.specs.declared.cursor.Cursor.{Cursor}
 use Rattle.walk_leaves.specs.declared.cursor.Walked.the-variants.{On, Refused}
 use Rattle.walk_records.specs.declared.envelopes.Member.{Member}

@@ -20,7 +20,7 @@ use Rattle.rules.specs.Decode as D
 use Rattle.rules.specs.Decode.{Message, Decoded}
 use Rattle.rules.specs.Envelope.{inLine, outOfLine, decodeWord, unknownInLine, unknownOutOfLine, unknownEnvelope}
 use Rattle.rules.specs.Walk as W
-use Rattle.nesting.specs.Ready.{someTable}
+use Rattle.layout.specs.Ready.{someTable}
 use Rattle.walk_leaves.specs.declared.cursor.Cursor.{Cursor}
 use Rattle.walk_leaves.specs.declared.cursor.Walked.{Walked}
 use Rattle.walk_leaves.specs.declared.cursor.Walked.the-variants.{On, Refused}

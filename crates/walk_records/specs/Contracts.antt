@@ -15,7 +15,7 @@ use Rattle.rules.specs.Decode.{Decoder}
 use Rattle.rules.specs.Records.{readCount}
 use Rattle.rules.specs.Envelope.{unknownInLine, unknownOutOfLine, unknownEnvelope, contentOfEightBytes}
 use Rattle.rules.specs.Walk as W
-use Rattle.nesting.specs.Ordinals.{ordinalIs, ContentIs}
+use Rattle.ordinals.specs.Ordinals.{ordinalIs, ContentIs}
 use Rattle.walk_leaves.specs.declared.cursor.Cursor.{Cursor}
 use Rattle.walk_leaves.specs.declared.cursor.Walked.{Walked}
 use Rattle.walk_records.specs.declared.records.Count.{Count}

@@ -15,7 +15,7 @@ use Rattle.rules.specs.Decode.{Message, Decoded, went, Decoder, ReadRecord, got
 use Rattle.rules.specs.Records.{ordinalPattern, readNumber, readPresence, readCount, readTable}
 use Rattle.rules.specs.Envelope.{decodeWord, lowWord, handleNumber, contentOfEightBytes}
 use Rattle.rules.specs.Walk as W
-use Rattle.nesting.specs.declared.Ordinal.{Ordinal}
+use Rattle.ordinals.specs.declared.Ordinal.{Ordinal}
 use Rattle.walk_leaves.specs.declared.cursor.Cursor.{Cursor}
 use Rattle.walk_leaves.specs.declared.cursor.Walked.{Walked}
 use Rattle.walk_leaves.specs.declared.cursor.Walked.the-variants.{On}

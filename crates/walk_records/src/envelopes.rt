@@ -4,14 +4,14 @@ ghost use Prim.Native.Nat.{_+_, _≤_, _<_};
 ghost use lib.ListN.{length};
 ghost use Rattle.walk_leaves.specs.Doing.{Ask};
 ghost use Rattle.rules.specs.Records.{isKnown};
-ghost use Rattle.nesting.specs.Ordinals.{ordinalIs, Rising};
+ghost use Rattle.ordinals.specs.Ordinals.{ordinalIs, Rising};
 ghost use Rattle.walk_records.specs.Opening.{Reaches, handlesSealed};
 ghost use Rattle.walk_leaves.specs.Parts.{DidNeither};
 ghost use Rattle.walk_records.specs.Contracts.{UnionOpens, MemberIs, UnknownDid, UnknownInLineDid, UnknownOutOfLineDid, RawWordsDid, TakenDid, KnownOpens, SealDid};
 use crate::records::Opened;
 use crate::records::Opening;
 use crate::records::deeper;
-use nesting::Ordinal;
+use ordinals::Ordinal;
 use rules::Fault;
 use walk_leaves::claims::claim;
 use walk_leaves::cursor::Cursor;
@@ -57,7 +57,7 @@ pub fn union_member(
         }
         return Member::Bad(fault_at(11, at));
     }
-    let what = nesting::ordinal_of(members, first, count, ordinal);
+    let what = ordinals::ordinal_of(members, first, count, ordinal);
     let accepted = (2 <= form) | is_known(what);
     if !accepted {
         return Member::Bad(fault_at(17, at));

@@ -20,10 +20,10 @@ use Rattle.rules.specs.Encode.{put, unfit}
 use Rattle.rules.specs.Records.{anyPattern, writeNumber}
 use Rattle.rules.specs.Envelope.{encodeWord}
 use Rattle.words.proofs.Stores.{sets-past, length-bytesOf}
-use Rattle.nesting.specs.Plans.{widthSize, widthLayout, partsSize, partsFrom, Runnable}
-use Rattle.nesting.specs.Ready.{widthAllowed}
+use Rattle.plans.specs.Plans.{widthSize, widthLayout, partsSize, partsFrom, Runnable}
+use Rattle.layout.specs.Ready.{widthAllowed}
 use Rattle.nesting.proofs.Items.{itemsOf, sizeOfItems, fields-size}
-use Rattle.nesting.proofs.Plans.{parts-next, parts-none}
+use Rattle.plans.proofs.Plans.{parts-next, parts-none}
 use Rattle.write_leaves.specs.declared.cursor.Cursor.{Cursor}
 use Rattle.write_leaves.specs.declared.cursor.Wrote.{Wrote}
 use Rattle.write_leaves.specs.declared.cursor.Wrote.the-variants.{On, Refused}

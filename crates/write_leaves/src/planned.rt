@@ -5,8 +5,8 @@ ghost use Prim.Native.Nat.{_+_, _*_, _^_, _≤_, _<_};
 ghost use lib.Seq.{sets};
 ghost use Rattle.rules.specs.Bytes.{bytesOf, zeros};
 ghost use Rattle.rules.specs.Encode.{elements};
-ghost use Rattle.nesting.specs.Plans.{widthSize, partsSize, partsFrom, partsOf, Runnable};
-ghost use Rattle.nesting.specs.Ready.{widthAllowed};
+ghost use Rattle.plans.specs.Plans.{widthSize, partsSize, partsFrom, partsOf, Runnable};
+ghost use Rattle.layout.specs.Ready.{widthAllowed};
 ghost use Rattle.write_leaves.specs.Putting.{Stands, Ask, PutsInLine};
 ghost use Rattle.write_leaves.specs.Planning.{widthAs, partsAs, PutAsked};
 use crate::cursor::Cursor;
@@ -17,7 +17,7 @@ use crate::cursor::took;
 use crate::scalars::boolean;
 use crate::scalars::largest;
 use crate::scalars::put_word;
-use nesting::Plan;
+use plans::Plan;
 
 // A number of a width, and fill: past the output's end, where the pass that measures stores all, nothing is looked at.
 fn put_number(out: &mut [u8], width: u32, at: usize, v: u64)
@@ -78,7 +78,7 @@ fn one(
     while i < count {
         let width = widths[i];
         let fill = fills[i] as usize;
-        let stop = place + nesting::width_size(width);
+        let stop = place + plans::width_size(width);
         match part(values, out, width, place, d) {
             Wrote::On(e) => {
                 put_fill(out, stop, fill);

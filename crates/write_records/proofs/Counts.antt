@@ -21,7 +21,7 @@ use Rattle.rules.specs.Encode.{Encoder, put, unfit}
 use Rattle.rules.specs.Records.{countBytes, writeCount}
 use Rattle.rules.specs.Writer as R
 use Rattle.words.proofs.Stores.{sets-append, length-bytesOf}
-use Rattle.nesting.specs.Ready.{someTable}
+use Rattle.layout.specs.Ready.{someTable}
 use Rattle.write_leaves.specs.declared.cursor.Cursor.{Cursor}
 use Rattle.write_records.specs.declared.records.Opening.{Opening}
 use Rattle.write_records.specs.declared.records.Opened.{Opened}

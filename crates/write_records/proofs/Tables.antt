@@ -21,7 +21,7 @@ use Rattle.rules.specs.Encode.{Encoder, put}
 use Rattle.rules.specs.Records.{countBytes, writeTable}
 use Rattle.rules.specs.Envelope.{writeContentOfEightBytes}
 use Rattle.rules.specs.Writer as R
-use Rattle.nesting.proofs.Edition.{envelope-size, content-written}
+use Rattle.rules.proofs.Edition.{envelope-size, content-written}
 use Rattle.rules.proofs.Bytes.{padded-multiple}
 use Rattle.write_leaves.specs.declared.cursor.Cursor.{Cursor}
 use Rattle.write_records.specs.declared.records.Opening.{Opening}

@@ -23,7 +23,7 @@ use Rattle.rules.specs.Envelope.{encodeWord}
 use Rattle.rules.specs.Records.{writeCount}
 use Rattle.rules.specs.Writer as R
 use Rattle.rules.proofs.Bytes.{padded-above}
-use Rattle.nesting.specs.Ready.{someTable}
+use Rattle.layout.specs.Ready.{someTable}
 use Rattle.write_leaves.specs.declared.cursor.Cursor.{Cursor}
 use Rattle.write_leaves.specs.declared.cursor.Wrote.{Wrote}
 use Rattle.write_leaves.specs.declared.cursor.Wrote.the-variants as W

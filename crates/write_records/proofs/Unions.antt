@@ -21,9 +21,9 @@ use Rattle.rules.specs.Encode.{Encoded, wrote, cannot, Encoder, WriteRecord, pu
 use Rattle.rules.specs.Records.{isKnown, unless, writeIf, ordinalPattern, writeNumber}
 use Rattle.rules.specs.Envelope.{encodeContent, writeContentOfEightBytes}
 use Rattle.rules.specs.Writer as R
-use Rattle.nesting.specs.declared.Ordinal.{Ordinal}
-use Rattle.nesting.specs.Ordinals.{ordinalIs, ContentIs, halved, Rising}
-use Rattle.nesting.proofs.Edition.{envelope-size, content-written}
+use Rattle.ordinals.specs.declared.Ordinal.{Ordinal}
+use Rattle.ordinals.specs.Ordinals.{ordinalIs, ContentIs, halved, Rising}
+use Rattle.rules.proofs.Edition.{envelope-size, content-written}
 use Rattle.words.proofs.Stores.{sets-append, length-bytesOf}
 use Rattle.write_leaves.specs.declared.cursor.Cursor.{Cursor}
 use Rattle.write_leaves.specs.declared.cursor.Wrote.{Wrote}

@@ -17,8 +17,8 @@ use Rattle.rules.specs.Encode.{Encoder}
 use Rattle.rules.specs.Records.{ordinalPattern, writeNumber, writePresence, writeCount, writeTable}
 use Rattle.rules.specs.Envelope.{inLine, outOfLine, envelopeBytes, writeContentOfEightBytes, writeUnknown}
 use Rattle.rules.specs.Writer as R
-use Rattle.nesting.specs.declared.Ordinal.{Ordinal}
-use Rattle.nesting.specs.Ordinals.{ordinalIs, ContentIs}
+use Rattle.ordinals.specs.declared.Ordinal.{Ordinal}
+use Rattle.ordinals.specs.Ordinals.{ordinalIs, ContentIs}
 use Rattle.write_leaves.specs.declared.cursor.Cursor.{Cursor}
 use Rattle.write_leaves.specs.declared.cursor.Wrote.{Wrote}
 use Rattle.write_leaves.specs.declared.cursor.Wrote.the-variants as W

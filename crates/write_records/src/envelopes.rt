@@ -4,10 +4,10 @@ ghost use Prim.Native.Nat.{_+_, _-_, _≤_, _<_, _%_};
 ghost use lib.Seq.{sets};
 ghost use Rattle.rules.specs.Records.{isKnown};
 ghost use Rattle.rules.specs.Envelope.{envelopeBytes, writeUnknownInLine, writeUnknownOutOfLine};
-ghost use Rattle.nesting.specs.Ordinals.{ordinalIs, Rising};
+ghost use Rattle.ordinals.specs.Ordinals.{ordinalIs, Rising};
 ghost use Rattle.write_leaves.specs.Putting.{Stands, Ask, Puts, PutsInLine};
 ghost use Rattle.write_records.specs.Contracts.{UnionOpens, MemberIs, UnknownPuts, sealedOut};
-use nesting::Ordinal;
+use ordinals::Ordinal;
 use rules::Fault;
 use write_leaves::cursor::Cursor;
 use write_leaves::cursor::Wrote;
@@ -61,7 +61,7 @@ pub fn union_member(
         words::store64(out, at + 8, 0);
         return Member::None(took(c));
     }
-    let what = nesting::ordinal_of(members, first, count, v);
+    let what = ordinals::ordinal_of(members, first, count, v);
     let accepted = (2 <= form) | is_known(what);
     if !accepted {
         return Member::Bad(fault_at(26, c.index));

@@ -14,7 +14,7 @@ use Rattle.rules.specs.Encode as E
 use Rattle.rules.specs.Encode.{Encoder}
 use Rattle.rules.specs.Writer as R
 use Rattle.nesting.specs.Nesting.{hasParts}
-use Rattle.nesting.proofs.ByKind.{array-below}
+use Rattle.layout.proofs.ByKind.{array-below}
 use Rattle.nesting.proofs.Items.{itemsOf}
 use Rattle.nesting.proofs.Left.{fieldsLeft}
 use Rattle.nesting.proofs.Starts.{Parts, members, elements, parts-of, startOf, struct-fields, array-fields, members-below}

@@ -15,7 +15,7 @@ use Rattle.rules.specs.Records.{writeCount, writePresence, writeTable, writeNum
 use Rattle.rules.specs.Envelope.{encodeWord}
 use Rattle.rules.specs.Writer as R
 use Rattle.layout.proofs.Rows.{below-step}
-use Rattle.nesting.proofs.Below.{AllBelow, FieldsBelow, fields-same, fields-below}
+use Rattle.layout.proofs.Below.{AllBelow, FieldsBelow, fields-same, fields-below}
 use Rattle.write_leaves.specs.InLine.{boolAs, handleAs}
 
 module _ (t : TypeTable) (deep : E.Deeper) where

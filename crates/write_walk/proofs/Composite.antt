@@ -18,7 +18,7 @@ use Rattle.nesting.specs.declared.Level.{Level}
 use Rattle.nesting.specs.declared.Step.{Step}
 use Rattle.nesting.specs.declared.Step.the-variants.{Fill, Into, Call, Out, Done}
 use Rattle.nesting.specs.Nesting.{hasParts, nextStep}
-use Rattle.nesting.specs.Ready.{Ready}
+use Rattle.layout.specs.Ready.{Ready}
 use Rattle.nesting.proofs.Items.{Item, itemsOf, fields-size}
 use Rattle.nesting.proofs.Left.{advanced, fieldsLeft}
 use Rattle.nesting.proofs.Starts.{startOf, start-size}

@@ -17,11 +17,11 @@ use Rattle.rules.specs.Encode as E
 use Rattle.rules.specs.Encode.{Encoded, wrote, cannot, Encoder}
 use Rattle.rules.specs.Envelope.{inLine, outOfLine, envelopeBytes, byteNumberGoes, writeByteNumber, flagsGo, writeFlags, writeContentOfEightBytes}
 use Rattle.rules.specs.Writer as R
-use Rattle.nesting.specs.declared.Ordinal.{Ordinal}
-use Rattle.nesting.specs.declared.Ordinal.the-variants.{Known, Unknown}
-use Rattle.nesting.specs.Ordinals.{OrdinalFits}
-use Rattle.nesting.specs.Ready.{Ready}
-use Rattle.nesting.proofs.Readiness.{row-in-use, row-size, size-small, ready-at}
+use Rattle.ordinals.specs.declared.Ordinal.{Ordinal}
+use Rattle.ordinals.specs.declared.Ordinal.the-variants.{Known, Unknown}
+use Rattle.ordinals.specs.Ordinals.{OrdinalFits}
+use Rattle.layout.specs.Ready.{Ready}
+use Rattle.layout.proofs.Readiness.{row-in-use, row-size, size-small, ready-at}
 use Rattle.words.proofs.Stores.{sets-append, sets-comm, length-bytesOf}
 use Rattle.write_leaves.specs.declared.cursor.Cursor.{Cursor}
 use Rattle.write_leaves.specs.declared.cursor.Wrote.{Wrote}

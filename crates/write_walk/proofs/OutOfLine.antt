@@ -12,12 +12,12 @@ use Rattle.rules.specs.Encode as E
 use Rattle.rules.specs.Encode.{Encoder}
 use Rattle.rules.specs.Envelope.{writeContentOfEightBytes}
 use Rattle.rules.specs.Writer as R
-use Rattle.nesting.specs.declared.Ordinal.{Ordinal}
-use Rattle.nesting.specs.Ordinals.{ordinalIs, OrdinalFits}
-use Rattle.nesting.specs.Ready.{Ready}
-use Rattle.nesting.proofs.ByKind.{size-vector, size-box, size-table, size-union}
-use Rattle.nesting.proofs.Members.{MembersRise, ordinal-fits, vector-in-use, box-in-use}
-use Rattle.nesting.proofs.Readiness.{row-size}
+use Rattle.ordinals.specs.declared.Ordinal.{Ordinal}
+use Rattle.ordinals.specs.Ordinals.{ordinalIs, OrdinalFits}
+use Rattle.layout.specs.Ready.{Ready}
+use Rattle.layout.proofs.ByKind.{size-vector, size-box, size-table, size-union}
+use Rattle.ordinals.proofs.Members.{MembersRise, ordinal-fits, vector-in-use, box-in-use}
+use Rattle.layout.proofs.Readiness.{row-size}
 use Rattle.write_leaves.specs.declared.cursor.Cursor.{Cursor}
 use Rattle.write_leaves.specs.declared.cursor.Wrote.{Wrote}
 use Rattle.write_leaves.specs.declared.cursor.Wrote.the-variants.{On, Refused}

@@ -14,12 +14,12 @@ use Rattle.rules.specs.Sound.{soundness}
 use Rattle.rules.specs.Encode as E
 use Rattle.rules.specs.Encode.{Encoder}
 use Rattle.rules.specs.Writer as R
-use Rattle.nesting.specs.declared.Plan.{Plan}
-use Rattle.nesting.specs.Plans.{partsSize, partsOf, Runnable, planOf, Planned}
-use Rattle.nesting.specs.Ready.{Ready}
-use Rattle.nesting.proofs.ByKind.{width-positive}
-use Rattle.nesting.proofs.Plans.{Flat, a-bool, a-number, AllFlat, none, more, FlatRow, bool-row, struct-row, flat-runnable, plan-flat, flat-row-size}
-use Rattle.nesting.proofs.Readiness.{row-size}
+use Rattle.plans.specs.declared.Plan.{Plan}
+use Rattle.plans.specs.Plans.{partsSize, partsOf, Runnable, planOf, Planned}
+use Rattle.layout.specs.Ready.{Ready}
+use Rattle.layout.proofs.ByKind.{width-positive}
+use Rattle.plans.proofs.Plans.{Flat, a-bool, a-number, AllFlat, none, more, FlatRow, bool-row, struct-row, flat-runnable, plan-flat, flat-row-size}
+use Rattle.layout.proofs.Readiness.{row-size}
 use Rattle.nesting.proofs.Starts.{members-below}
 use Rattle.write_leaves.specs.declared.cursor.Cursor.{Cursor}
 use Rattle.write_leaves.specs.declared.cursor.Wrote.{Wrote}

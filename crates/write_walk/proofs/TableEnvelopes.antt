@@ -19,8 +19,8 @@ use Rattle.rules.specs.Encode as E
 use Rattle.rules.specs.Encode.{Encoder, cannot, wrote}
 use Rattle.rules.specs.Envelope.{writeContentOfEightBytes}
 use Rattle.rules.specs.Writer as R
-use Rattle.nesting.specs.declared.Ordinal.{Ordinal}
-use Rattle.nesting.specs.Ordinals.{ordinalIs}
+use Rattle.ordinals.specs.declared.Ordinal.{Ordinal}
+use Rattle.ordinals.specs.Ordinals.{ordinalIs}
 use Rattle.write_leaves.specs.declared.cursor.Cursor.{Cursor}
 use Rattle.write_leaves.specs.declared.cursor.Wrote.{Wrote}
 use Rattle.write_leaves.specs.declared.cursor.Wrote.the-variants.{On, Refused}

@@ -13,10 +13,10 @@ use Rattle.rules.specs.Sizes.{sizeOf}
 use Rattle.rules.specs.Envelope.{encodeWord}
 use Rattle.rules.specs.Writer as R
 use Rattle.nesting.specs.Nesting.{hasParts}
-use Rattle.nesting.specs.Ready.{Ready, widthAllowed}
-use Rattle.nesting.proofs.ByKind.{size-bool, size-number, size-handle, size-array, size-string, number-width, array-below}
+use Rattle.layout.specs.Ready.{Ready, widthAllowed}
+use Rattle.layout.proofs.ByKind.{size-bool, size-number, size-handle, size-array, size-string, number-width, array-below}
 use Rattle.nesting.proofs.NoParts.{array-left, struct-empty, array-numbers, size-empty}
-use Rattle.nesting.proofs.Readiness.{row-few, ready-at}
+use Rattle.layout.proofs.Readiness.{row-few, ready-at}
 use Rattle.write_leaves.specs.declared.cursor.Cursor.{Cursor}
 use Rattle.write_leaves.specs.declared.cursor.Wrote.{Wrote}
 use Rattle.write_leaves.specs.declared.cursor.Wrote.the-variants.{On}

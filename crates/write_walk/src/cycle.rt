@@ -6,14 +6,14 @@ ghost use Prim.Native.Nat.{_*_, _≤_, _<_, min};
 ghost use Rattle.rules.specs.TypeTable.{typeTable, kindAt};
 ghost use Rattle.rules.specs.Sizes.{sizeOf};
 ghost use Rattle.nesting.specs.Nesting.{hasParts};
-ghost use Rattle.nesting.specs.Ordinals.{OrdinalFits};
-ghost use Rattle.nesting.specs.Ready.{Ready, Outside};
+ghost use Rattle.ordinals.specs.Ordinals.{OrdinalFits};
+ghost use Rattle.layout.specs.Ready.{Ready, Outside};
 ghost use Rattle.write_leaves.specs.Putting.{Ask, cursorAt};
 ghost use Rattle.write_walk.specs.Walking.{Claimed, ValuePut, ElementsPut, ObjectOf, SingleOf, EnvelopesPut, ContentPut};
 use nesting::Level;
 use nesting::NESTED;
-use nesting::Ordinal;
 use nesting::Step;
+use ordinals::Ordinal;
 use write_leaves::cursor::Cursor;
 use write_leaves::cursor::Wrote;
 use write_leaves::cursor::passed_on;
@@ -150,7 +150,7 @@ fn elements(
         return numbers(values, out, width, count, at, c);
     }
     let size = words::number_at(sizes, row) as usize;
-    let plan = nesting::plan_of(rows, members, alignments, row);
+    let plan = plans::plan_of(rows, members, alignments, row);
     if 0 < plan.count {
         return planned(values, out, plan, size, count, at, c);
     }
@@ -208,7 +208,7 @@ fn composite(
     let first = words::number_at(rows, row * 4 + 1) as usize;
     let part = words::number_at(members, first * 2 + 1) as usize;
     if words::number_at(rows, part * 4) <= 2 {
-        let plan = nesting::plan_of(rows, members, alignments, row);
+        let plan = plans::plan_of(rows, members, alignments, row);
         if 0 < plan.count {
             let size = words::number_at(sizes, row) as usize;
             return planned(values, out, plan, size, 1, at, c);
@@ -494,7 +494,7 @@ fn envelopes(
             words::store64(out, place, 0);
             d = e;
         } else {
-            let what = nesting::ordinal_of(members, first, known, i as u64);
+            let what = ordinals::ordinal_of(members, first, known, i as u64);
             match content(
                 rows,
                 members,

@@ -20,7 +20,7 @@ use Rattle.layout.specs.declared.Soundness.the-variants as Table
 use Rattle.layout.specs.Answers as Layout
 use Rattle.layout.specs.Answers.{RootIs, keptSizes, keptAlignments}
 use Rattle.layout.proofs.Roots.{root-in-use}
-use Rattle.nesting.specs.Ready.{Ready}
+use Rattle.layout.specs.Ready.{Ready}
 use Rattle.writer.specs.declared.Sizes.{Sizes}
 use Rattle.writer.specs.declared.Written.{Written}
 use Rattle.writer.specs.declared.Written.the-variants.{Accepted, Refused}

@@ -22,7 +22,7 @@ use Rattle.rules.specs.Answers.{encode, closed}
 use Rattle.rules.proofs.Envelopes.{nil-of}
 use Rattle.layout.proofs.Rows.{sound-rows, sound-size}
 use Rattle.layout.proofs.Keeping.{kept-size}
-use Rattle.nesting.specs.Ready.{Ready}
+use Rattle.layout.specs.Ready.{Ready}
 use Rattle.writer.specs.declared.Written.{Written}
 use Rattle.writer.specs.declared.Written.the-variants as Whole
 use Rattle.write_leaves.specs.declared.cursor.Cursor.{Cursor}

@@ -3,7 +3,7 @@ ghost use mathlib.Core.Path.{_≡_};
 ghost use Rattle.rules.specs.TypeTable.{typeTable};
 ghost use Rattle.rules.specs.Answers.{written};
 ghost use Rattle.layout.specs.Answers.{keptSizes, keptAlignments};
-ghost use Rattle.nesting.specs.Ready.{Ready};
+ghost use Rattle.layout.specs.Ready.{Ready};
 ghost use Rattle.writer.specs.Answers.{writtenOf, sizesOf};
 ghost use Rattle.writer.specs.Passing.{PrimaryPut, afterValue, Passed};
 use crate::Sizes;

@@ -17,16 +17,16 @@ use Rattle.rules.specs.Sizes.{sizeOf}
 use Rattle.rules.specs.Decode as D
 use Rattle.words.proofs.load64.Reads as load64-reads
 use Rattle.words.proofs.number_at.Reads as number-at-reads
-use Rattle.nesting.specs.Ready.{Ready}
-use Rattle.nesting.proofs.Readiness.{row-few, row-in-use, row-size, size-small, ready-at}
-use Rattle.nesting.proofs.Members.{members-rise, ordinal-content, ordinal-fits, vector-in-use, box-in-use, table-members, union-members, union-else}
+use Rattle.layout.specs.Ready.{Ready}
+use Rattle.layout.proofs.Readiness.{row-few, row-in-use, row-size, size-small, ready-at}
+use Rattle.ordinals.proofs.Members.{members-rise, ordinal-content, ordinal-fits, vector-in-use, box-in-use, table-members, union-members, union-else}
 use Rattle.nesting.proofs.NoParts.{outside-left}
 use Rattle.nesting.proofs.Steps.{fuel}
 use Rattle.walk_leaves.proofs.cursor.passed_on.Reads as passed-on-reads
 use Rattle.nesting.proofs.has_parts.Reads as has-parts-reads
 use Rattle.nesting.proofs.next_step.Reads as next-step-reads
-use Rattle.nesting.proofs.ordinal_of.Reads as ordinal-of-reads
-use Rattle.nesting.proofs.plan_of.Reads as plan-of-reads
+use Rattle.ordinals.proofs.ordinal_of.Reads as ordinal-of-reads
+use Rattle.plans.proofs.plan_of.Reads as plan-of-reads
 use Rattle.walk.specs.Walking.{walkRow}
 use Rattle.walk_records.proofs.Levels.{level-left}
 use Rattle.walk.proofs.Contents.{content-unknown, content-closed, content-not-open, payload-few, payload-small, payload-ready, payload-asks, payload-rises, content-sealed, content-refused}

@@ -5,7 +5,7 @@ use mathlib.Core.Path.{_≡_, refl}
 use native.Mathlib.Omega.{arith}
 use borrow.Author.Needs.{needs}
 use lib.ListN.{length}
-use Rattle.nesting.specs.Plans.{partsFrom}
+use Rattle.plans.specs.Plans.{partsFrom}
 use Rattle.walk_leaves.proofs.Bools.{bools-inside, bools-ask, bools-given}
 use Rattle.walk_leaves.proofs.ByPlan.{ValuesLeft, values-start, value-asks, values-end, value-refused, value-on}
 use Rattle.walk_leaves.proofs.planned.planned.Statement.{statement}

@@ -5,7 +5,7 @@ use Prim.Native.Nat.{_-_, _≤_}
 use native.Mathlib.Omega.{arith}
 use borrow.Author.Needs.{needs}
 use lib.ListN.{length}
-use Rattle.nesting.specs.Plans.{partsFrom}
+use Rattle.plans.specs.Plans.{partsFrom}
 use Rattle.write_leaves.proofs.ByPlan.{PartsLeft, parts-start, parts-open, parts-end, part-allowed, part-asks, part-refused, part-on}
 use Rattle.write_leaves.proofs.planned.one.Statement.{statement}
 use Rattle.write_leaves.proofs.planned.one.Tie as tie

@@ -4,7 +4,7 @@ use mathlib.Core.Path.{_≡_, refl}
 use native.Mathlib.Omega.{arith}
 use borrow.Author.Needs.{needs}
 use lib.ListN.{length}
-use Rattle.nesting.specs.Plans.{partsFrom}
+use Rattle.plans.specs.Plans.{partsFrom}
 use Rattle.write_leaves.proofs.ByPlan.{ValuesLeft, values-start, value-asks, values-end, value-refused, value-on}
 use Rattle.write_leaves.proofs.planned.planned.Statement.{statement}
 use Rattle.write_leaves.proofs.planned.planned.Tie as tie

@@ -3,7 +3,7 @@
 use mathlib.Core.Path.{_∙_}
 use native.Mathlib.Omega.{arith}
 use borrow.Author.Needs.{needs}
-use Rattle.nesting.proofs.Ordinals.{halved-content}
+use Rattle.ordinals.proofs.Ordinals.{halved-content}
 use Rattle.write_records.proofs.Unions.{union-ended, union-required, union-absent, union-unknown, union-member}
 use Rattle.write_records.proofs.envelopes.union_member.Statement.{statement}
 use Rattle.write_records.proofs.envelopes.union_member.Tie as tie

@@ -13,10 +13,10 @@ use lib.ListN.{length, drop}
 use Rattle.rules.specs.TypeTable.{typeTable}
 use Rattle.rules.specs.Sizes.{sizeOf}
 use Rattle.rules.specs.Encode as E
-use Rattle.nesting.specs.Ready.{Ready}
-use Rattle.nesting.proofs.Members.{members-rise, ordinal-content, ordinal-fits, vector-in-use, box-in-use, table-members, union-members, union-else}
+use Rattle.layout.specs.Ready.{Ready}
+use Rattle.ordinals.proofs.Members.{members-rise, ordinal-content, ordinal-fits, vector-in-use, box-in-use, table-members, union-members, union-else}
 use Rattle.nesting.proofs.NoParts.{outside-left}
-use Rattle.nesting.proofs.Readiness.{row-few, row-in-use, row-size, size-small, ready-at, few-elements}
+use Rattle.layout.proofs.Readiness.{row-few, row-in-use, row-size, size-small, ready-at, few-elements}
 use Rattle.nesting.proofs.Steps.{fuel}
 use Rattle.write_walk.specs.Walking.{writeRow, writeElements}
 use Rattle.write_leaves.proofs.Leading.{ask-stands, wrote-length}
@@ -57,8 +57,8 @@ use Rattle.write_walk.proofs.cycle.+composite+content+elements+envelope
 use Rattle.write_leaves.proofs.cursor.passed_on.Reads as passed-on-reads
 use Rattle.nesting.proofs.has_parts.Reads as has-parts-reads
 use Rattle.nesting.proofs.next_step.Reads as next-step-reads
-use Rattle.nesting.proofs.ordinal_of.Reads as ordinal-of-reads
-use Rattle.nesting.proofs.plan_of.Reads as plan-of-reads
+use Rattle.ordinals.proofs.ordinal_of.Reads as ordinal-of-reads
+use Rattle.plans.proofs.plan_of.Reads as plan-of-reads
 use Rattle.words.proofs.number_at.Reads as number-at-reads
 use Rattle.words.proofs.store64.Reads as store64-reads
 use Rattle.words.proofs.value_at.Reads as value-at-reads

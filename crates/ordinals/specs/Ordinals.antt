@@ -8,8 +8,8 @@ use lib.Dec.{ltb, eqb}
 use lib.ListN.{getD}
 use Rattle.rules.specs.Refusals.{if_then_else_}
 use Rattle.rules.specs.TypeTable.{TypeTable, rowCount, Content, known, unknown, contentOf}
-use Rattle.nesting.specs.declared.Ordinal.{Ordinal}
-use Rattle.nesting.specs.declared.Ordinal.the-variants.{Known, Unknown}
+use Rattle.ordinals.specs.declared.Ordinal.{Ordinal}
+use Rattle.ordinals.specs.declared.Ordinal.the-variants.{Known, Unknown}
 
 abbrev pub ordinalIs : Ordinal → Content
 ordinalIs (Known row) = known row

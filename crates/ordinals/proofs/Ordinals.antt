@@ -9,8 +9,8 @@ use borrow.Author.Tests.{eq-eqb, ne-eqb, eqb-true, eqb-false, ltb-true, ltb-fals
 use lib.Dec.{ltb, eqb}
 use lib.ListN.{getD}
 use Rattle.rules.specs.TypeTable.{TypeTable, ordinalAt, rowOf, known, unknown, contentOf}
-use Rattle.nesting.specs.Ordinals.{halvedIn, halved, Rising}
-use Rattle.nesting.proofs.Halving.{halved-done, halved-here, halved-up, halved-down}
+use Rattle.ordinals.specs.Ordinals.{halvedIn, halved, Rising}
+use Rattle.ordinals.proofs.Halving.{halved-done, halved-here, halved-up, halved-down}
 
 -- ---- any members
 

@@ -4,9 +4,9 @@ use mathlib.Core.Path.{refl}
 use Prim.Native.Nat.{_-_}
 use native.Mathlib.Omega.{arith}
 use borrow.Author.Needs.{needs}
-use Rattle.nesting.proofs.Planning.{size-most, Planning, planning-start, planning-end, planning-wide, planning-far, planning-more}
-use Rattle.nesting.proofs.flat_members.Statement.{statement}
-use Rattle.nesting.proofs.flat_members.Tie as tie
+use Rattle.plans.proofs.Planning.{size-most, Planning, planning-start, planning-end, planning-wide, planning-far, planning-more}
+use Rattle.plans.proofs.flat_members.Statement.{statement}
+use Rattle.plans.proofs.flat_members.Tie as tie
 
 abbrev Inv-loop : tie.InvT-loop
 Inv-loop rows members alignments row count widths₀ fills₀ place₀ i₀ widths fills place i = Planning rows members alignments row count widths fills place i

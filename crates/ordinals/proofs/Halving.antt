@@ -11,7 +11,7 @@ use lib.Dec.{ltb, eqb}
 use lib.ListN.{getD}
 use Rattle.rules.specs.Refusals.{if_then_else_}
 use Rattle.rules.specs.TypeTable.{Content, known, unknown}
-use Rattle.nesting.specs.Ordinals.{halvedIn, halved}
+use Rattle.ordinals.specs.Ordinals.{halvedIn, halved}
 
 chosen : (left here smaller : Bool) (row : Content) {up up′ down down′ : Content} → (left ≡ true → up ≡ up′) → (left ≡ true → down ≡ down′)
     → (if left then (if here then row else if smaller then up else down) else unknown) ≡ (if left then (if here then row else if smaller then up′ else down′) else unknown)

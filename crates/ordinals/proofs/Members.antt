@@ -11,12 +11,12 @@ use Rattle.rules.specs.Refusals.{if_then_else_}
 use Rattle.rules.specs.TypeTable.{TypeTable, rowCount, memberCount, kindAt, aAt, bAt, cAt, ordinalAt, rowOf, known, contentOf}
 use Rattle.rules.specs.Sound.{risingMembers, membersExist, rowFits}
 use Rattle.layout.proofs.Rows.{both, sound-row, OtherKind, other-kind}
-use Rattle.nesting.specs.declared.Ordinal.{Ordinal}
-use Rattle.nesting.specs.declared.Ordinal.the-variants.{Known, Unknown}
-use Rattle.nesting.specs.Ordinals.{ordinalIs, halved, Rising, OrdinalFits}
-use Rattle.nesting.specs.Ready.{Ready, Outside}
-use Rattle.nesting.proofs.ByKind.{fits-kind}
-use Rattle.nesting.proofs.Ordinals.{halved-content}
+use Rattle.ordinals.specs.declared.Ordinal.{Ordinal}
+use Rattle.ordinals.specs.declared.Ordinal.the-variants.{Known, Unknown}
+use Rattle.ordinals.specs.Ordinals.{ordinalIs, halved, Rising, OrdinalFits}
+use Rattle.layout.specs.Ready.{Ready, Outside}
+use Rattle.layout.proofs.ByKind.{fits-kind}
+use Rattle.ordinals.proofs.Ordinals.{halved-content}
 
 -- ---- members that rise
 

@@ -9,10 +9,10 @@ use lib.ListN.{getD}
 use Rattle.rules.specs.declared.Layout.{Layout}
 use Rattle.rules.specs.Refusals.{if_then_else_}
 use Rattle.rules.specs.Sizes.{Field, field, fieldsSize}
 use Rattle.nesting.specs.declared.Level.{Level}
-use Rattle.nesting.specs.declared.Plan.{Plan}
+use Rattle.plans.specs.declared.Plan.{Plan}
 use Rattle.nesting.specs.Nesting.{nextPart, nextPlace}
-use Rattle.nesting.specs.Ready.{widthAllowed}
+use Rattle.layout.specs.Ready.{widthAllowed}
 
 -- The width of a row's value: a number's own, 0 of a bool; 9, which no number has, of any other.
 abbrev pub flatWidth : (rows : List ℕ) (row : ℕ) → ℕ

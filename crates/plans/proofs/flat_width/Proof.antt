@@ -1,9 +1,9 @@
 -- `nesting::flat_width` meets its contract: a law for each answer.
 -- Assumes nothing.
 use borrow.Author.Needs.{needs}
-use Rattle.nesting.proofs.Planning.{width-bool, width-number, width-none}
-use Rattle.nesting.proofs.flat_width.Statement.{statement}
-use Rattle.nesting.proofs.flat_width.Tie as tie
+use Rattle.plans.proofs.Planning.{width-bool, width-number, width-none}
+use Rattle.plans.proofs.flat_width.Statement.{statement}
+use Rattle.plans.proofs.flat_width.Tie as tie
 
 returns : tie.Need-returns
 returns c = search (needs, width-bool)

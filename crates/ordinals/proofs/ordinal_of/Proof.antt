@@ -4,9 +4,9 @@
 use Prim.Native.Nat.{_-_}
 use native.Mathlib.Omega.{arith}
 use borrow.Author.Needs.{needs}
-use Rattle.nesting.proofs.Halving.{Searched, halved-past, few-members, searched-whole, searched-none, searched-here, searched-up, searched-down}
-use Rattle.nesting.proofs.ordinal_of.Statement.{statement}
-use Rattle.nesting.proofs.ordinal_of.Tie as tie
+use Rattle.ordinals.proofs.Halving.{Searched, halved-past, few-members, searched-whole, searched-none, searched-here, searched-up, searched-down}
+use Rattle.ordinals.proofs.ordinal_of.Statement.{statement}
+use Rattle.ordinals.proofs.ordinal_of.Tie as tie
 
 abbrev Inv-loop : tie.InvT-loop
 Inv-loop members first count ordinal low₀ high₀ low high = Searched members first count ordinal low high

@@ -1,9 +1,9 @@
 -- `nesting::width_size` meets its contract.
 -- Assumes nothing.
 use borrow.Author.Needs.{needs}
-use Rattle.nesting.proofs.Planning.{bool-size, number-size}
-use Rattle.nesting.proofs.width_size.Statement.{statement}
-use Rattle.nesting.proofs.width_size.Tie as tie
+use Rattle.plans.proofs.Planning.{bool-size, number-size}
+use Rattle.plans.proofs.width_size.Statement.{statement}
+use Rattle.plans.proofs.width_size.Tie as tie
 
 returns : tie.Need-returns
 returns c = search (needs, bool-size)

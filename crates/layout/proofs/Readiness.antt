@@ -8,9 +8,9 @@ use native.Mathlib.Omega.{arith}
 use lib.ListN.{getD}
 use Rattle.rules.specs.TypeTable.{TypeTable, rowCount}
 use Rattle.rules.specs.Sizes.{sizeOf}
 use Rattle.layout.proofs.Rows.{sound-rows, sound-size}
 use Rattle.layout.proofs.Keeping.{few-rows, kept-size, sound-bounded}
-use Rattle.nesting.specs.Ready.{Ready}
+use Rattle.layout.specs.Ready.{Ready}
 
 module _ {t : TypeTable} {sizes alignments : List ℕ} {depth row : ℕ} (ready : Ready t sizes alignments depth row) where
   -- the row itself,

@@ -13,9 +13,9 @@ use lib.Seq.{getD-set-same, getD-set-other}
 use Rattle.rules.specs.Refusals.{if_then_else_}
 use Rattle.rules.specs.Sizes.{Field, field}
 use Rattle.layout.proofs.Rows.{both}
-use Rattle.nesting.specs.declared.Plan.{Plan}
+use Rattle.plans.specs.declared.Plan.{Plan}
 use Rattle.nesting.specs.Nesting.{nextPart, nextPlace}
-use Rattle.nesting.specs.Plans.{flatWidth, widthSize, partsFrom, partsOf, allFlat, after, flatFrom, flatMembers, planOf, Planned}
+use Rattle.plans.specs.Plans.{flatWidth, widthSize, partsFrom, partsOf, allFlat, after, flatFrom, flatMembers, planOf, Planned}
 
 -- ---- widths
 

@@ -2,9 +2,9 @@
 -- Assumes nothing.
 use mathlib.Core.Path.{refl}
 use native.Mathlib.Omega.{arith}
-use Rattle.nesting.specs.Plans.{partsFrom}
-use Rattle.nesting.proofs.no_plan.Statement.{statement}
-use Rattle.nesting.proofs.no_plan.Tie as tie
+use Rattle.plans.specs.Plans.{partsFrom}
+use Rattle.plans.proofs.no_plan.Statement.{statement}
+use Rattle.plans.proofs.no_plan.Tie as tie
 
 returns : tie.Need-returns
 unfolding partsFrom

@@ -14,15 +14,15 @@ use Rattle.rules.specs.Sizes.{Field, field, layoutOf, sizeOf, fieldsOf, fieldsS
 use Rattle.rules.specs.Sound.{soundness}
 use Rattle.layout.specs.Answers.{keptAlignments}
 use Rattle.layout.proofs.Rows.{both}
-use Rattle.nesting.specs.declared.Plan.{Plan}
+use Rattle.plans.specs.declared.Plan.{Plan}
 use Rattle.nesting.specs.Nesting.{hasParts, nextPart, nextPlace}
-use Rattle.nesting.specs.Ready.{Ready, widthAllowed}
-use Rattle.nesting.specs.Plans.{flatWidth, widthSize, partsSize, partsFrom, partsOf, Runnable, allFlat, after, flatFrom, planOf, Planned}
-use Rattle.nesting.proofs.ByKind.{size-bool, size-number, number-width, width-positive}
+use Rattle.layout.specs.Ready.{Ready, widthAllowed}
+use Rattle.plans.specs.Plans.{flatWidth, widthSize, partsSize, partsFrom, partsOf, Runnable, allFlat, after, flatFrom, planOf, Planned}
+use Rattle.layout.proofs.ByKind.{size-bool, size-number, number-width, width-positive}
 use Rattle.nesting.proofs.Left.{fieldsLeft, no-members-left}
 use Rattle.nesting.proofs.Parts.{next-of}
-use Rattle.nesting.proofs.Readiness.{row-few}
+use Rattle.layout.proofs.Readiness.{row-few}
 use Rattle.nesting.proofs.Starts.{startOf, struct-fields, struct-size, members-below}
 
 -- The width that stands for a row.
 pub data Flat (t : TypeTable) (row : ℕ) : (width : ℕ) → Type 0 where

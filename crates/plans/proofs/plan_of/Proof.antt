@@ -2,9 +2,9 @@
 -- Assumes nothing.
 use mathlib.Core.Path.{refl}
 use borrow.Author.Needs.{needs}
-use Rattle.nesting.proofs.Planning.{struct-few, one-bool, plan-past, plan-bool, plan-struct, plan-none}
-use Rattle.nesting.proofs.plan_of.Statement.{statement}
-use Rattle.nesting.proofs.plan_of.Tie as tie
+use Rattle.plans.proofs.Planning.{struct-few, one-bool, plan-past, plan-bool, plan-struct, plan-none}
+use Rattle.plans.proofs.plan_of.Statement.{statement}
+use Rattle.plans.proofs.plan_of.Tie as tie
 
 returns : tie.Need-returns
 returns c = search (needs, plan-past)
