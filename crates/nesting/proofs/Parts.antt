@@ -54,10 +54,10 @@ module _ (t : TypeTable) (alignments : List ℕ) (sound : soundness t ≡ accept
 
     -- What the end of the next member is rounded up to.
     next-alignment : kindAt t (l .row) ≡ 7
-        → (getD alignments (if eqb (aAt t (l .row) + l .done + 1) (aAt t (l .row) + bAt t (l .row)) then l .row else getD (t .members) ((aAt t (l .row) + l .done) * 2 + 3) 0) 0
+        → (getD alignments (if eqb (aAt t (l .row) + l .done + 1) (aAt t (l .row) + bAt t (l .row)) then l .row else rowOf t (aAt t (l .row) + l .done + 1)) 0
         ≡ nextAlignment (layoutOf t) (layoutOf t (l .row) .alignment)
         (memberRows t (aAt t (l .row) + l .done + 1) (aAt t (l .row) + bAt t (l .row) - (aAt t (l .row) + l .done + 1))))
-        × (0 < getD alignments (if eqb (aAt t (l .row) + l .done + 1) (aAt t (l .row) + bAt t (l .row)) then l .row else getD (t .members) ((aAt t (l .row) + l .done) * 2 + 3) 0) 0)
+        × (0 < getD alignments (if eqb (aAt t (l .row) + l .done + 1) (aAt t (l .row) + bAt t (l .row)) then l .row else rowOf t (aAt t (l .row) + l .done + 1)) 0)
     next-alignment k = go (eqb (member + 1) end) refl
       where
         member : ℕ
@@ -68,9 +68,9 @@ module _ (t : TypeTable) (alignments : List ℕ) (sound : soundness t ≡ accept
 
         Right : (last : Bool) → Type 0
         Right last =
-            (getD alignments (if last then l .row else getD (t .members) (member * 2 + 3) 0) 0
+            (getD alignments (if last then l .row else rowOf t (member + 1)) 0
             ≡ nextAlignment (layoutOf t) (layoutOf t (l .row) .alignment) (memberRows t (member + 1) (end - (member + 1))))
-            × (0 < getD alignments (if last then l .row else getD (t .members) (member * 2 + 3) 0) 0)
+            × (0 < getD alignments (if last then l .row else rowOf t (member + 1)) 0)
 
         go : (last : Bool) → eqb (member + 1) end ≡ last → Right last
         go true e =
@@ -78,12 +78,11 @@ module _ (t : TypeTable) (alignments : List ℕ) (sound : soundness t ≡ accept
             (own .0 ∙ sym (alignment-last t (layoutOf t) (layoutOf t (l .row) .alignment) member end (eqb-true _ _ e)), own .1)
         go false e =
             let more : member + 1 < end = (let n = eqb-false (member + 1) end e in omega arith) in
-            let place : member * 2 + 3 ≡ (member + 1) * 2 + 1 = omega arith in
             let count : member + 1 ≡ aAt t (l .row) + (l .done + 1) = omega arith in
             let fits = struct-fits t (l .row) (aAt t (l .row)) (bAt t (l .row)) (fits-kind t (l .row) sound in-use k) .members in
             let under : rowOf t (member + 1) < l .row = rw count (member-below t (l .row) (aAt t (l .row)) (bAt t (l .row)) 1 (l .done + 1) fits (omega arith)) in
             let own = alignment-kept (rowOf t (member + 1)) (omega arith) in
-            (rw place (own .0 ∙ sym (alignment-next t (layoutOf t) (layoutOf t (l .row) .alignment) member end more)), rw place (own .1))
+            (own .0 ∙ sym (alignment-next t (layoutOf t) (layoutOf t (l .row) .alignment) member end more), own .1)
 
     next-of-members : (place : ℕ) → l .at ≤ place → kindAt t (l .row) ≡ 7 → NextPart place
     next-of-members place from k =

@@ -32,10 +32,10 @@ pub fn has_parts(rows: &[u32], row: usize) -> bool
     if 256 <= row {
         return false;
     }
-    let kind = words::number_at(rows, row * 4);
-    let a = words::number_at(rows, row * 4 + 1) as usize;
-    let count = words::number_at(rows, row * 4 + 2);
-    (kind == 7) & (0 < count) | (kind == 4) & (words::number_at(rows, a * 4) != 2)
+    let kind = table::kind_at(rows, row);
+    let a = table::a_at(rows, row) as usize;
+    let count = table::b_at(rows, row);
+    (kind == 7) & (0 < count) | (kind == 4) & (table::kind_at(rows, a) != 2)
 }
 
 // Where the member after one starts, or where the struct ends, counted from the struct's start.
@@ -53,7 +53,7 @@ fn next_offset(
     if member + 1 == end {
         return words::round_up(offset, words::number_at(alignments, row)) as usize;
     }
-    let next = words::number_at(members, member * 2 + 3) as usize;
+    let next = table::row_of(members, member + 1) as usize;
     words::round_up(offset, words::number_at(alignments, next)) as usize
 }
 
@@ -62,9 +62,9 @@ pub fn next_part(rows: &[u32], members: &[u32], level: Level) -> usize
     requires { ⌜ (level .row < 256) × (level .done < 65536) ⌝ }
     ensures { λ r. ⌜ (r ≡ nextPart (now (rows .entry)) (now (members .entry)) level) × (r < 4294967296) ⌝ }
 {
-    let a = words::number_at(rows, level.row * 4 + 1) as usize;
-    if words::number_at(rows, level.row * 4) == 7 {
-        return words::number_at(members, (a + level.done) * 2 + 1) as usize;
+    let a = table::a_at(rows, level.row) as usize;
+    if table::kind_at(rows, level.row) == 7 {
+        return table::row_of(members, a + level.done) as usize;
     }
     a
 }
@@ -80,11 +80,11 @@ pub fn next_place(
     requires { ⌜ (level .row < 256) × (level .done < 65536) × (level .at ≤ stop) × (stop ≤ 65536) ⌝ }
     ensures { λ r. ⌜ r ≡ nextPlace (now (rows .entry)) (now (members .entry)) level (now (alignments .entry)) stop ⌝ }
 {
-    if words::number_at(rows, level.row * 4) == 4 {
+    if table::kind_at(rows, level.row) == 4 {
         return stop;
     }
-    let first = words::number_at(rows, level.row * 4 + 1) as usize;
-    let end = first + words::number_at(rows, level.row * 4 + 2) as usize;
+    let first = table::a_at(rows, level.row) as usize;
+    let end = first + table::b_at(rows, level.row) as usize;
     let offset = next_offset(
         members,
         alignments,
@@ -119,7 +119,7 @@ pub fn next_step(
     if due {
         return Step::Fill(next_place(rows, members, alignments, level, place));
     }
-    if level.done == words::number_at(rows, level.row * 4 + 2) as usize {
+    if level.done == table::b_at(rows, level.row) as usize {
         return if around == 0 { Step::Done } else { Step::Out };
     }
     let part = next_part(rows, members, level);

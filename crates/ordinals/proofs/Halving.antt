@@ -8,9 +8,8 @@ use Prim.Native.Nat.{ℕ, zero, suc, _+_, _-_, _*_, _/_, _≤_, _<_}
 use native.Mathlib.Omega.{arith}
 use borrow.Author.Tests.{lt-ltb, le-ltb, eq-eqb, ne-eqb, ltb-true, ltb-false}
 use lib.Dec.{ltb, eqb}
-use lib.ListN.{getD}
 use Rattle.rules.specs.Refusals.{if_then_else_}
-use Rattle.rules.specs.TypeTable.{Content, known, unknown}
+use Rattle.rules.specs.TypeTable.{ordinalIn, rowIn, Content, known, unknown}
 use Rattle.ordinals.specs.Ordinals.{halvedIn, halved}
 
 chosen : (left here smaller : Bool) (row : Content) {up up′ down down′ : Content} → (left ≡ true → up ≡ up′) → (left ≡ true → down ≡ down′)
@@ -26,7 +25,7 @@ module _ (members : List ℕ) (ordinal : ℕ) where
   steps-same zero s′ low high h k = absurd (omega arith)
   steps-same (suc s) zero low high h k = absurd (omega arith)
   steps-same (suc s) (suc s′) low high h k =
-      chosen (ltb low high) (eqb (getD members ((low + high) / 2 * 2) 0) ordinal) (ltb (getD members ((low + high) / 2 * 2) 0) ordinal) (known (getD members ((low + high) / 2 * 2 + 1) 0))
+      chosen (ltb low high) (eqb (ordinalIn members ((low + high) / 2)) ordinal) (ltb (ordinalIn members ((low + high) / 2)) ordinal) (known (rowIn members ((low + high) / 2)))
       (λ q. let left : low < high = ltb-true low high q in steps-same s s′ ((low + high) / 2 + 1) high (omega arith) (omega arith))
       (λ q. let left : low < high = ltb-true low high q in steps-same s s′ low ((low + high) / 2) (omega arith) (omega arith))
 
@@ -34,8 +33,8 @@ module _ (members : List ℕ) (ordinal : ℕ) where
   unfolding halvedIn
   halved-done s low high h = rw (le-ltb low high h)
 
-  module _ (s low high : ℕ) (left : low < high) {here : ℕ} (e : here ≡ getD members ((low + high) / 2 * 2) 0) where
-    pub halved-here : here ≡ ordinal → halvedIn members ordinal (suc s) low high ≡ known (getD members ((low + high) / 2 * 2 + 1) 0)
+  module _ (s low high : ℕ) (left : low < high) {here : ℕ} (e : here ≡ ordinalIn members ((low + high) / 2)) where
+    pub halved-here : here ≡ ordinal → halvedIn members ordinal (suc s) low high ≡ known (rowIn members ((low + high) / 2))
     unfolding halvedIn
     halved-here q = rw (lt-ltb low high left, ← e, eq-eqb here ordinal q)
 
@@ -76,8 +75,8 @@ module _ {members : List ℕ} {first count ordinal low high : ℕ} (s : Searched
   pub searched-none : high ≤ low → unknown ≡ halved members ordinal first count
   searched-none h = sym (halved-done members ordinal (high - low) low high h) ∙ s .same
 
-  module _ (left : low < high) {here : ℕ} (e : here ≡ getD members ((low + high) / 2 * 2) 0) where
-    pub searched-here : {row : ℕ} → here ≡ ordinal → row ≡ getD members ((low + high) / 2 * 2 + 1) 0 → known row ≡ halved members ordinal first count
+  module _ (left : low < high) {here : ℕ} (e : here ≡ ordinalIn members ((low + high) / 2)) where
+    pub searched-here : {row : ℕ} → here ≡ ordinal → row ≡ rowIn members ((low + high) / 2) → known row ≡ halved members ordinal first count
     searched-here q r = rw r (sym (halved-here members ordinal (high - low) low high left e q) ∙ s .same)
 
     pub searched-up : (here ≡ ordinal → ⊥) → here < ordinal → Searched members first count ordinal ((low + high) / 2 + 1) high

@@ -7,8 +7,7 @@ use Prim.Native.Nat.{ℕ, zero, suc, _+_, _-_, _*_, _/_, _≤_, _<_}
 use native.Mathlib.Omega.{arith}
 use borrow.Author.Tests.{eq-eqb, ne-eqb, eqb-true, eqb-false, ltb-true, ltb-false, le-ltb}
 use lib.Dec.{ltb, eqb}
-use lib.ListN.{getD}
-use Rattle.rules.specs.TypeTable.{TypeTable, ordinalAt, rowOf, known, unknown, contentOf}
+use Rattle.rules.specs.TypeTable.{ordinalIn, TypeTable, ordinalAt, rowOf, known, unknown, contentOf}
 use Rattle.ordinals.specs.Ordinals.{halvedIn, halved, Rising}
 use Rattle.ordinals.proofs.Halving.{halved-done, halved-here, halved-up, halved-down}
 
@@ -53,8 +52,8 @@ content-first t first (suc count) ordinal k h l before e =
 record Narrowed (members : List ℕ) (first count ordinal low high : ℕ) : Type 0 where
   pub from : first ≤ low
   pub upto : high ≤ first + count
-  pub smaller : (k : ℕ) → first ≤ k → k < low → getD members (k * 2) 0 < ordinal
-  pub larger : (k : ℕ) → high ≤ k → k < first + count → ordinal < getD members (k * 2) 0
+  pub smaller : (k : ℕ) → first ≤ k → k < low → ordinalIn members k < ordinal
+  pub larger : (k : ℕ) → high ≤ k → k < first + count → ordinal < ordinalIn members k
 
 narrowed-whole : {members : List ℕ} {first count ordinal : ℕ} → Narrowed members first count ordinal first (first + count)
 narrowed-whole = record {
@@ -92,15 +91,15 @@ module _ (t : TypeTable) (first count : ℕ) (rising : Rising (t .members) first
 
   module _ {ordinal low high : ℕ} (s : Narrowed (t .members) first count ordinal low high) (left : low < high) where
     -- The middle member is the one;
-    narrowed-found : getD (t .members) ((low + high) / 2 * 2) 0 ≡ ordinal
-        → known (getD (t .members) ((low + high) / 2 * 2 + 1) 0) ≡ contentOf t first count ordinal
+    narrowed-found : ordinalAt t ((low + high) / 2) ≡ ordinal
+        → known (rowOf t ((low + high) / 2)) ≡ contentOf t first count ordinal
     narrowed-found q =
         let middle : ℕ = (low + high) / 2 in
         sym (content-first t first count ordinal middle (omega (arith, s .from)) (omega (arith, s .upto))
         (λ j i g z. omega (arith, rises j middle i g (omega (arith, s .upto)))) (omega arith))
 
     -- its ordinal is smaller;
-    narrowed-up : getD (t .members) ((low + high) / 2 * 2) 0 < ordinal → Narrowed (t .members) first count ordinal ((low + high) / 2 + 1) high
+    narrowed-up : ordinalAt t ((low + high) / 2) < ordinal → Narrowed (t .members) first count ordinal ((low + high) / 2 + 1) high
     narrowed-up q = record {
       from = omega (arith, s .from);
       upto = s .upto;
@@ -109,7 +108,7 @@ module _ (t : TypeTable) (first count : ℕ) (rising : Rising (t .members) first
     }
 
     -- it is larger.
-    narrowed-down : (getD (t .members) ((low + high) / 2 * 2) 0 ≡ ordinal → ⊥) → ordinal ≤ getD (t .members) ((low + high) / 2 * 2) 0 → Narrowed (t .members) first count ordinal low ((low + high) / 2)
+    narrowed-down : (ordinalAt t ((low + high) / 2) ≡ ordinal → ⊥) → ordinal ≤ ordinalAt t ((low + high) / 2) → Narrowed (t .members) first count ordinal low ((low + high) / 2)
     narrowed-down n q = record {
       from = s .from;
       upto = omega (arith, s .upto);
@@ -122,24 +121,24 @@ module _ (t : TypeTable) (first count : ℕ) (rising : Rising (t .members) first
         → halvedIn (t .members) ordinal steps low high ≡ contentOf t first count ordinal
     narrowed-halved zero low high h s = absurd (omega arith)
     narrowed-halved (suc steps) low high h s =
-        go (ltb low high) (eqb (getD (t .members) ((low + high) / 2 * 2) 0) ordinal) (ltb (getD (t .members) ((low + high) / 2 * 2) 0) ordinal) refl refl refl
+        go (ltb low high) (eqb (ordinalAt t ((low + high) / 2)) ordinal) (ltb (ordinalAt t ((low + high) / 2)) ordinal) refl refl refl
         (λ l g. narrowed-halved steps ((low + high) / 2 + 1) high (omega arith) g) (λ l g. narrowed-halved steps low ((low + high) / 2) (omega arith) g)
       where
-        go : (left here smaller : Bool) → ltb low high ≡ left → eqb (getD (t .members) ((low + high) / 2 * 2) 0) ordinal ≡ here → ltb (getD (t .members) ((low + high) / 2 * 2) 0) ordinal ≡ smaller
+        go : (left here smaller : Bool) → ltb low high ≡ left → eqb (ordinalAt t ((low + high) / 2)) ordinal ≡ here → ltb (ordinalAt t ((low + high) / 2)) ordinal ≡ smaller
             → (low < high → Narrowed (t .members) first count ordinal ((low + high) / 2 + 1) high → halvedIn (t .members) ordinal steps ((low + high) / 2 + 1) high ≡ contentOf t first count ordinal)
             → (low < high → Narrowed (t .members) first count ordinal low ((low + high) / 2) → halvedIn (t .members) ordinal steps low ((low + high) / 2) ≡ contentOf t first count ordinal)
             → halvedIn (t .members) ordinal (suc steps) low high ≡ contentOf t first count ordinal
         go true true smaller l e m up down =
             let some : low < high = ltb-true low high l in
-            let is : getD (t .members) ((low + high) / 2 * 2) 0 ≡ ordinal = eqb-true _ _ e in
+            let is : ordinalAt t ((low + high) / 2) ≡ ordinal = eqb-true _ _ e in
             halved-here (t .members) ordinal steps low high some refl is ∙ narrowed-found s some is
         go true false true l e m up down =
             let some : low < high = ltb-true low high l in
-            let less : getD (t .members) ((low + high) / 2 * 2) 0 < ordinal = ltb-true _ _ m in
+            let less : ordinalAt t ((low + high) / 2) < ordinal = ltb-true _ _ m in
             halved-up (t .members) ordinal steps low high some refl (eqb-false _ _ e) less ∙ up some (narrowed-up s some less)
         go true false false l e m up down =
             let some : low < high = ltb-true low high l in
-            let least : ordinal ≤ getD (t .members) ((low + high) / 2 * 2) 0 = ltb-false _ _ m in
+            let least : ordinal ≤ ordinalAt t ((low + high) / 2) = ltb-false _ _ m in
             halved-down (t .members) ordinal steps low high some refl (eqb-false _ _ e) least ∙ down some (narrowed-down s some (eqb-false _ _ e) least)
         go false here smaller l e m up down =
             let none : high ≤ low = ltb-false low high l in

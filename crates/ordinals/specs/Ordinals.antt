@@ -5,9 +5,8 @@ use mathlib.Core.List.{List}
 use mathlib.Core.Path.{_≡_}
 use Prim.Native.Nat.{ℕ, zero, suc, _+_, _*_, _/_, _<_}
 use lib.Dec.{ltb, eqb}
-use lib.ListN.{getD}
 use Rattle.rules.specs.Refusals.{if_then_else_}
-use Rattle.rules.specs.TypeTable.{TypeTable, rowCount, Content, known, unknown, contentOf}
+use Rattle.rules.specs.TypeTable.{TypeTable, ordinalIn, rowIn, rowCount, Content, known, unknown, contentOf}
 use Rattle.ordinals.specs.declared.Ordinal.{Ordinal}
 use Rattle.ordinals.specs.declared.Ordinal.the-variants.{Known, Unknown}
 
@@ -24,8 +23,8 @@ unfoldable pub halvedIn : (members : List ℕ) (ordinal steps low high : ℕ) �
 halvedIn members ordinal zero low high = unknown
 halvedIn members ordinal (suc steps) low high =
     if ltb low high then (
-    if eqb (getD members ((low + high) / 2 * 2) 0) ordinal then known (getD members ((low + high) / 2 * 2 + 1) 0)
-    else if ltb (getD members ((low + high) / 2 * 2) 0) ordinal then halvedIn members ordinal steps ((low + high) / 2 + 1) high
+    if eqb (ordinalIn members ((low + high) / 2)) ordinal then known (rowIn members ((low + high) / 2))
+    else if ltb (ordinalIn members ((low + high) / 2)) ordinal then halvedIn members ordinal steps ((low + high) / 2 + 1) high
     else halvedIn members ordinal steps low ((low + high) / 2)
     ) else unknown
 
@@ -37,7 +36,7 @@ halved members ordinal first count =
 
 -- The ordinals of so many members rise strictly, as in a sound table or union.
 abbrev pub Rising : (members : List ℕ) (first count : ℕ) → Type 0
-Rising members first count = (i j : ℕ) → i < j → j < count → getD members ((first + i) * 2) 0 < getD members ((first + j) * 2) 0
+Rising members first count = (i j : ℕ) → i < j → j < count → ordinalIn members (first + i) < ordinalIn members (first + j)
 
 -- A known member's row is in use.
 abbrev pub OrdinalFits : TypeTable → Ordinal → Type 0

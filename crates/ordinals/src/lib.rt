@@ -20,9 +20,9 @@ pub fn ordinal_of(members: &[u32], first: usize, count: usize, ordinal: u64) -> 
     let mut high = first + count;
     while low < high {
         let middle = (low + high) / 2;
-        let here = words::number_at(members, middle * 2) as u64;
+        let here = table::ordinal_at(members, middle) as u64;
         if here == ordinal {
-            return Ordinal::Known(words::number_at(members, middle * 2 + 1) as usize);
+            return Ordinal::Known(table::row_of(members, middle) as usize);
         }
         if here < ordinal {
             low = middle + 1;

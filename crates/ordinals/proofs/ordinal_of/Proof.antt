@@ -1,4 +1,4 @@
--- `nesting::ordinal_of` meets its contract: what is left between `low` and `high` is what the whole search finds, and it
+-- `ordinals::ordinal_of` meets its contract: what is left between `low` and `high` is what the whole search finds, and it
 -- falls.
 -- Assumes nothing.
 use Prim.Native.Nat.{_-_}
@@ -39,7 +39,6 @@ pub ordinal-of-spec : {M : Type 1} → statement M
 ordinal-of-spec =
     tie.close
     (tie.spec
-    Inv-loop μ-loop returns add-high loop-holds (λ c. search needs) (λ c. search needs)
-    (λ c κs. search needs) (λ c. search needs) (λ c. search needs) (λ c. search needs)
+    Inv-loop μ-loop returns add-high loop-holds (λ c. search needs) (λ c κs. search needs) (λ c. search needs)
     (λ c κs. search needs) (λ c. search needs) returns-2 (λ c. search needs) (λ c. search needs)
     loop-again (λ c. search needs) loop-again-2 returns-3)

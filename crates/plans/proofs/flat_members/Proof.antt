@@ -1,4 +1,4 @@
--- `nesting::flat_members` meets its contract: what is planned so far, and then what is left, is the whole.
+-- `plans::flat_members` meets its contract: what is planned so far, and then what is left, is the whole.
 -- Assumes nothing.
 use mathlib.Core.Path.{refl}
 use Prim.Native.Nat.{_-_}

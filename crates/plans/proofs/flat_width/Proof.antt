@@ -1,4 +1,4 @@
--- `nesting::flat_width` meets its contract: a law for each answer.
+-- `plans::flat_width` meets its contract: a law for each answer.
 -- Assumes nothing.
 use borrow.Author.Needs.{needs}
 use Rattle.plans.proofs.Planning.{width-bool, width-number, width-none}

@@ -1,4 +1,4 @@
--- `nesting::no_plan` meets its contract.
+-- `plans::no_plan` meets its contract.
 -- Assumes nothing.
 use mathlib.Core.Path.{refl}
 use native.Mathlib.Omega.{arith}

@@ -1,4 +1,4 @@
--- `nesting::plan_of` meets its contract: a law for each answer.
+-- `plans::plan_of` meets its contract: a law for each answer.
 -- Assumes nothing.
 use mathlib.Core.Path.{refl}
 use borrow.Author.Needs.{needs}

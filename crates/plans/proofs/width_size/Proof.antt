@@ -1,4 +1,4 @@
--- `nesting::width_size` meets its contract.
+-- `plans::width_size` meets its contract.
 -- Assumes nothing.
 use borrow.Author.Needs.{needs}
 use Rattle.plans.proofs.Planning.{bool-size, number-size}
