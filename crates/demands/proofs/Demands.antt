@@ -176,7 +176,9 @@ module _ (rows members : List ℕ) (root : ℕ) where
         objectsAreClaims = c .objectsAreClaims;
         unknownContentIsAnObject = c .unknownContentIsAnObject;
         objectsTile = c .objectsTile;
+        fillsAreZero = c .fillsAreZero;
         handlesAddUp = c .handlesAddUp;
+        presentHandlesAreOnes = c .presentHandlesAreOnes;
       }
 
   written-back : (message : List ℕ) (handles : ℕ) → Octets message → (lent lent′ : List ℕ) (count : ℕ) (given : Answer (List ℕ))

@@ -9,7 +9,7 @@ use lib.ListN.{length, take, drop}
 use Rattle.rules.specs.Refusals.{Answer, accepted, refused, andThen}
 use Rattle.rules.specs.Bytes.{Octets}
 use Rattle.rules.specs.TypeTable.{typeTable}
-use Rattle.rules.specs.Trace.{Event, objectList, presentHandles, unknownHandles, unknownOutOfLine, Tiles, unknownLengths}
+use Rattle.rules.specs.Trace.{Event, objectList, presentHandles, unknownHandles, unknownOutOfLine, Tiles, FillsAreZero, unknownLengths, PresentHandlesAreOnes}
 use Rattle.rules.specs.Decode.{traceOf}
 use Rattle.rules.specs.Answers.{walk}
 use Rattle.reader.specs.declared.Verdict.{Verdict}
@@ -87,8 +87,11 @@ module _ (rows members : List ℕ) (root : ℕ) where
     pub unknownContentIsAnObject : unknownLengths objects ≡ unknownOutOfLine trace
     -- "The object list tiles the message."
     pub objectsTile : Tiles 0 (length message) objects
+    pub fillsAreZero : FillsAreZero message objects
     -- "The handle count is the present handles plus the handle numbers of unknown content."
     pub handlesAddUp : handles ≡ presentHandles trace + unknownHandles trace
+    -- "A present handle is a handle's word of all ones met in the walk"
+    pub presentHandlesAreOnes : PresentHandlesAreOnes message trace
 
   pub record Demand3 : Type 0 where
     -- "Two accepted messages hold equal values exactly when bytes and handle counts are equal."

@@ -30,6 +30,8 @@ use Rattle.rules.proofs.Twins.{WellFormed, Decodes, decodes, Encodes, T
 use Rattle.rules.proofs.Claims.{twins-claim}
 use Rattle.rules.proofs.Envelopes.{nil-of}
 use Rattle.rules.proofs.WalkTwins.{twins-row, twins-levels}
+use Rattle.rules.proofs.Events.{Met}
+use Rattle.rules.proofs.WalkEvents.{walk-true}
 
 -- ---- answers that were accepted
 
@@ -243,6 +245,7 @@ module _ (t : TypeTable) (root : ℕ) where
   canonical-of bytes handles r oct e =
       let s = says (message t root bytes handles) root r oct e in
       let p = passed (message t root bytes handles) root r e in
+      let met : Met bytes (r .trace) = rw (p .walked) at (walk-true (message t root bytes handles) root) in
       record {
         values = r .values;
         objects = objectList (r .trace);
@@ -254,7 +257,9 @@ module _ (t : TypeTable) (root : ℕ) where
         objectsAreClaims = refl;
         unknownContentIsAnObject = s .unknowns;
         objectsTile = s .tiles;
+        fillsAreZero = met .0;
         handlesAddUp = s .handles;
+        presentHandlesAreOnes = met .1;
       }
 
   same-written : (values bytes bytes₂ : List ℕ) (handles handles₂ : ℕ) → IsWrittenTo t root values bytes handles → IsWrittenTo t root values bytes₂ handles₂ → (bytes ≡ bytes₂) × (handles ≡ handles₂)

@@ -9,6 +9,8 @@ pub mod Envelopes
 pub mod Presence
 pub mod Unknown
 pub mod WalkTwins
+pub mod Events
+pub mod WalkEvents
 pub mod Demands
 pub mod Rooms
 pub mod Edition

@@ -9,7 +9,7 @@ use lib.ListN.{length}
 use Rattle.rules.specs.Refusals.{accepted}
 use Rattle.rules.specs.Bytes.{Octets}
 use Rattle.rules.specs.TypeTable.{TypeTable}
-use Rattle.rules.specs.Trace.{Event, objectList, presentHandles, unknownHandles, unknownOutOfLine, Tiles, unknownLengths}
+use Rattle.rules.specs.Trace.{Event, objectList, presentHandles, unknownHandles, unknownOutOfLine, Tiles, FillsAreZero, unknownLengths, PresentHandlesAreOnes}
 use Rattle.rules.specs.Decode.{Message, traceOf}
 use Rattle.rules.specs.Answers.{walk, check, readValues, readObjects, write}
 
@@ -55,8 +55,11 @@ module _ (t : TypeTable) (root : ℕ) where
     pub unknownContentIsAnObject : unknownLengths objects ≡ unknownOutOfLine trace
     -- "The object list tiles the message."
     pub objectsTile : Tiles 0 (length bytes) objects
+    pub fillsAreZero : FillsAreZero bytes objects
     -- "The handle count is the present handles plus the handle numbers of unknown content."
     pub handlesAddUp : handles ≡ presentHandles trace + unknownHandles trace
+    -- "A present handle is a handle's word of all ones met in the walk"
+    pub presentHandlesAreOnes : PresentHandlesAreOnes bytes trace
 
   -- Demand 3: "Two accepted messages hold equal values exactly when bytes and handle counts are equal", and the above.
   pub record Demand3 : Type 0 where

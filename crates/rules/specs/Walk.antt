@@ -32,7 +32,7 @@ module _ (m : Message) where
 
   abbrev pub afterHandle : (at value : ℕ) → Decoder
   afterHandle at zero = nothing
-  afterHandle at (suc v) = takeHandles m at presentHandle
+  afterHandle at (suc v) = takeHandles m at (presentHandle at)
 
   -- "Present: 5, claim, then elements."
   abbrev pub afterVector : Deeper → (row element at value : ℕ) → Decoder

@@ -21,7 +21,7 @@ objects-append : (s t : List Event) → objectList (s ++ t) ≡ objectList s ++ 
 unfolding objectList
 objects-append [] t = refl
 objects-append (claimed kind row offset length ∷ s) t = ap (λ (l : List ℕ). kind ∷ row ∷ offset ∷ length ∷ l) (objects-append s t)
-objects-append (presentHandle ∷ s) t = objects-append s t
+objects-append (presentHandle at ∷ s) t = objects-append s t
 objects-append (unknownContent bytes handles ∷ s) t = objects-append s t
 
 -- A cursor after so many numbers given.
