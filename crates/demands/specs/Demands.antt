@@ -24,7 +24,7 @@ use Rattle.writer.specs.declared.Written.the-variants.{Accepted}
 use Rattle.writer.specs.Answers.{writtenOf}
 use Rattle.demands.specs.Promises.{Checks, ReadsValues, ReadsObjects, Reads, Writes}
 
--- A lent list after an operation: "past a written message or list all keeps what it held", on a refusal everything does.
+-- A lent list after an operation: "Past a written message or list all keeps what it held"; on a refusal everything does.
 abbrev pub Keeps : (given : Answer ℕ) (lent after : List ℕ) → Type 0
 Keeps (accepted count) lent after = drop count after ≡ drop count lent
 Keeps (refused f) lent after = after ≡ lent
@@ -80,21 +80,21 @@ module _ (rows members : List ℕ) (root : ℕ) where
     pub traceIsTheWalks : trace ≡ traceOf (walk (Doing.message (typeTable rows members) message handles) root)
     pub valuesAreRead : IsReadAs message handles values
     pub objectsAreListed : IsListedAs message handles objects
-    -- "Writing what was read gives back the same bytes and handle count."
+    -- "writing what was read gives back the same bytes and handle count"
     pub roundTrip : IsWrittenAs values message handles
-    -- "One object for each claim of the walk, unknown out-of-line content included, and no other."
+    -- "Its object list has one object for each claim of the walk, unknown out-of-line content included, and no other"
     pub objectsAreClaims : objects ≡ objectList trace
     pub unknownContentIsAnObject : unknownLengths objects ≡ unknownOutOfLine trace
-    -- "The object list tiles the message."
+    -- The object list "takes every byte once": as object, or as zero fill after one.
     pub objectsTile : Tiles 0 (length message) objects
     pub fillsAreZero : FillsAreZero message objects
-    -- "The handle count is the present handles plus the handle numbers of unknown content."
+    -- "the handle count is the present handles plus the handle numbers of unknown content"
     pub handlesAddUp : handles ≡ presentHandles trace + unknownHandles trace
     -- "A present handle is a handle's word of all ones met in the walk"
     pub presentHandlesAreOnes : PresentHandlesAreOnes message trace
 
   pub record Demand3 : Type 0 where
-    -- "Two accepted messages hold equal values exactly when bytes and handle counts are equal."
+    -- "two accepted messages hold equal values exactly when bytes and handle counts are equal"
     pub equalValuesExactlyWhenEqual : (message message₂ : List ℕ) (handles handles₂ : ℕ) (values values₂ : List ℕ) → Octets message → Octets message₂
         → IsReadAs message handles values → IsReadAs message₂ handles₂ values₂ → (values ≡ values₂) ↔ ((message ≡ message₂) × (handles ≡ handles₂))
     pub canonical : (message : List ℕ) (handles : ℕ) → Octets message → Checks rows members root message handles Checked.Accepted → Canonical message handles

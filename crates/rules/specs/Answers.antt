@@ -70,7 +70,7 @@ pub record Lists : Type 0 where
   pub values : List ℕ
   pub objects : List ℕ
 
--- "With both lists lent, objects first."
+-- 22 of the objects comes first: "with both lists lent, objects first".
 unfoldable pub read : Message → (root values-room objects-room : ℕ) → Answer Lists
 read m root values-room objects-room =
     andThen (readObjects m root objects-room) (λ objects.
@@ -83,7 +83,7 @@ pub record Written : Type 0 where
   pub bytes : List ℕ
   pub handles : ℕ
 
--- "Then 26 for numbers left." A refusal's index is how many numbers stand before the one judged.
+-- "then 26 for numbers left": 26 at the first of them. A refusal's index is how many numbers stand before the one judged.
 abbrev pub closed : (total : ℕ) → Encoded → Answer Written
 closed total (wrote inline outOfLine next used []) = accepted (record { bytes = outOfLine; handles = used })
 closed total (wrote inline outOfLine next used (v ∷ rest)) = refused (fault notAValue (Index (total - length (v ∷ rest))))
@@ -92,14 +92,14 @@ closed total (cannot number left) = refused (fault number (Index (total - left))
 unfoldable pub encode : TypeTable → (root : ℕ) → (values : List ℕ) → Encoded
 encode t root values = E.claim (sizeOf t root) (R.encodeRow t (R.levels t 32) root) values 0 0
 
--- "The writer walks the list in the same order: 1, 2, then whichever of 26, 5, 3, 4 is met first, then 26 for numbers left,"
+-- "The writer walks the list in the same order: 1, 2, then whichever of 26, 5, 3, 4 is met first"; then 26 for numbers left,
 unfoldable pub written : TypeTable → (root : ℕ) → (values : List ℕ) → Answer Written
 written t root values =
     andThen (soundness t) (λ sound.
     let closed-list = closed (length values) (encode t root values) in
     requireRow (rootAllowed t root) root closed-list)
 
--- "then 22 in bytes. Success answers the byte and handle counts."
+-- "then 22 in bytes". "Success answers the byte and handle counts."
 unfoldable pub write : TypeTable → (root : ℕ) → (values : List ℕ) → (room : ℕ) → Answer Written
 write t root values room = andThen (written t root values) (λ w. requireRoom (length (w .bytes)) room (accepted w))
 
@@ -109,6 +109,6 @@ outputAfter answer output = lentAfter (andThen answer (λ w. accepted (w .bytes)
 
 -- ---- layout
 
--- "The layout calculator answers size and alignment of any row; it refuses with 1, then 2 for a row that doesn't exist."
+-- "The layout calculator answers size and alignment of any row; it refuses with 1, then 2 for a row that doesn't exist, place that row."
 unfoldable pub layoutAnswer : TypeTable → (row : ℕ) → Answer Layout
 layoutAnswer t row = andThen (soundness t) (λ sound. requireRow (ltb row (rowCount t)) row (accepted (layoutOf t row)))

@@ -55,11 +55,11 @@ p1 =
     ++ ((0x02 ∷ 0x00 ∷ 0x00 ∷ 0x00 ∷ 0x00 ∷ 0x00 ∷ 0x01 ∷ 0x00 ∷ [])
     ++ (0x64 ∷ 0x00 ∷ 0xFD ∷ 0xFF ∷ 0x00 ∷ 0x00 ∷ 0x01 ∷ 0x00 ∷ [])))
 
--- "Count 0, presence all ones, 16 bytes."
+-- "Count 0, presence all ones, 16 bytes".
 abbrev pub p4 : List ℕ
 p4 = eightZeros ++ present
 
--- "Count 4, P1's envelopes, a zero one, `08 00 00 00 00 00 00 00`, eight bytes of content."
+-- "Count 4, P1's envelopes, a zero one, `08 00 00 00 00 00 00 00`, eight bytes of content".
 abbrev pub p6 : List ℕ
 p6 = set p1 0 4 ++ (eightZeros ++ ((0x08 ∷ 0 ∷ 0 ∷ 0 ∷ 0 ∷ 0 ∷ 0 ∷ 0 ∷ []) ++ (1 ∷ 2 ∷ 3 ∷ 4 ∷ 5 ∷ 6 ∷ 7 ∷ 8 ∷ [])))
 

@@ -17,7 +17,7 @@ module _ (t : TypeTable) (root : ℕ) where
   abbrev pub message : (bytes : List ℕ) (handles : ℕ) → Message
   message bytes handles = record { table = t; bytes = bytes; handles = handles }
 
-  -- "A message with its handle count is accepted when every test of the checker before, in and after the walk passes."
+  -- "a message with its handle count is accepted when every test of the checker before, in and after the walk passes"
   abbrev pub Accepted : (bytes : List ℕ) (handles : ℕ) → Type 0
   Accepted bytes handles = check (message bytes handles) root ≡ accepted tt
 
@@ -48,20 +48,20 @@ module _ (t : TypeTable) (root : ℕ) where
     pub traceIsTheWalks : trace ≡ traceOf (walk (message bytes handles) root)
     pub hasValue : HasValue bytes handles values
     pub hasObjects : HasObjects bytes handles objects
-    -- "Writing what was read gives back the same bytes and handle count."
+    -- "writing what was read gives back the same bytes and handle count"
     pub roundTrip : IsWrittenTo values bytes handles
-    -- "One object for each claim of the walk, unknown out-of-line content included, and no other."
+    -- "Its object list has one object for each claim of the walk, unknown out-of-line content included, and no other"
     pub objectsAreClaims : objects ≡ objectList trace
     pub unknownContentIsAnObject : unknownLengths objects ≡ unknownOutOfLine trace
-    -- "The object list tiles the message."
+    -- The object list "takes every byte once": as object, or as zero fill after one.
     pub objectsTile : Tiles 0 (length bytes) objects
     pub fillsAreZero : FillsAreZero bytes objects
-    -- "The handle count is the present handles plus the handle numbers of unknown content."
+    -- "the handle count is the present handles plus the handle numbers of unknown content"
     pub handlesAddUp : handles ≡ presentHandles trace + unknownHandles trace
     -- "A present handle is a handle's word of all ones met in the walk"
     pub presentHandlesAreOnes : PresentHandlesAreOnes bytes trace
 
-  -- Demand 3: "Two accepted messages hold equal values exactly when bytes and handle counts are equal", and the above.
+  -- Demand 3: "two accepted messages hold equal values exactly when bytes and handle counts are equal", and the above.
   pub record Demand3 : Type 0 where
     pub equalValuesExactlyWhenEqual : (bytes bytes₂ : List ℕ) (handles handles₂ : ℕ) (values values₂ : List ℕ) → Octets bytes → Octets bytes₂
         → HasValue bytes handles values → HasValue bytes₂ handles₂ values₂ → (values ≡ values₂) ↔ ((bytes ≡ bytes₂) × (handles ≡ handles₂))

@@ -29,7 +29,8 @@ requireOrdinal h answer =
     require (not (eqb (h .ordinal) 0)) (fault ordinalZero (Byte 8))
     (require (not (isEpitaph h) || eqb (h .transaction) 0) (fault epitaphTransaction (Byte 0)) answer)
 
--- "Tests: 3 over the whole; 6 at 0 if under 16 bytes; 23 magic, place 7; 24; 25; 20 at 16 if an epitaph has more bytes."
+-- "Tests: 3 over the whole; 6 at 0 if under 16 bytes; 23 magic, place 7; 24 ordinal 0, place 8; 25 ordinal all ones (epitaph) with
+-- transaction not 0, place 0; 20 at 16 if an epitaph has more bytes."
 unfoldable pub readHeader : (message : List ℕ) → Answer Header
 readHeader message =
     requireLength (length message)
