@@ -16,7 +16,9 @@ use Rattle.reader.specs.declared.Verdict.{Verdict}
 use Rattle.reader.specs.declared.Verdict.the-variants as Checked
 use Rattle.reader.specs.declared.Given.{Given}
 use Rattle.reader.specs.declared.Given.the-variants as One
+use Rattle.reader.specs.declared.Lengths.{Lengths}
 use Rattle.reader.specs.declared.Reading.{Reading}
+use Rattle.reader.specs.declared.Reading.the-variants as Both
 use Rattle.walk_leaves.specs.Doing as Doing
 use Rattle.reader.specs.Answers.{givenOf, readingOf}
 use Rattle.writer.specs.declared.Written.{Written}
@@ -56,6 +58,14 @@ module _ (rows members : List ℕ) (root : ℕ) where
       (lent lent′ : List ℕ) (r : Given) → length objects ≤ length lent → ReadsObjects rows members root message handles lent lent′ r
       → (r ≡ One.Accepted (length objects)) × (lent′ ≡ objects ++ drop (length objects) lent)
 
+  -- And so does the reader of both lists, given room for both.
+  abbrev pub IsReadBothAs : (message : List ℕ) (handles : ℕ) (values objects : List ℕ) → Type 0
+  IsReadBothAs message handles values objects =
+      (lent lent′ lentObjects lentObjects′ : List ℕ) (r : Reading) → length values ≤ length lent → length objects ≤ length lentObjects
+      → Reads rows members root message handles lent lent′ lentObjects lentObjects′ r
+      → (r ≡ Both.Accepted (record { values = length values; objects = length objects })) × (lent′ ≡ values ++ drop (length values) lent)
+      × (lentObjects′ ≡ objects ++ drop (length objects) lentObjects)
+
   -- Given room, the writer writes this message, answers its byte and handle counts, and changes nothing past it.
   abbrev pub IsWrittenAs : (values message : List ℕ) (handles : ℕ) → Type 0
   IsWrittenAs values message handles =
@@ -67,7 +77,11 @@ module _ (rows members : List ℕ) (root : ℕ) where
   pub record Demand2 : Type 0 where
     pub acceptedExactlyWhenEncoded : (message : List ℕ) (handles : ℕ) → Octets message → (r : Verdict) → Checks rows members root message handles r
         → (r ≡ Checked.Accepted) ↔ ((values : List ℕ) × IsWrittenAs values message handles)
-    pub readingGivesTheValue : (message : List ℕ) (handles : ℕ) (values : List ℕ) → IsWrittenAs values message handles → IsReadAs message handles values
+    pub readingGivesTheValue : (message : List ℕ) (handles : ℕ) (values : List ℕ) → IsWrittenAs values message handles
+        → IsReadAs message handles values × ((objects : List ℕ) × IsReadBothAs message handles values objects)
+    -- What the reader of both lists gives is what the readers of one list give: what is said of these holds of it.
+    pub readersAgree : (message : List ℕ) (handles : ℕ) (values objects : List ℕ) → IsReadBothAs message handles values objects
+        → IsReadAs message handles values × IsListedAs message handles objects
     pub writingGivesTheMessage : (message : List ℕ) (handles : ℕ) (values : List ℕ) → Octets message → IsReadAs message handles values → IsWrittenAs values message handles
 
   -- ---- demand 3
@@ -80,6 +94,7 @@ module _ (rows members : List ℕ) (root : ℕ) where
     pub traceIsTheWalks : trace ≡ traceOf (walk (Doing.message (typeTable rows members) message handles) root)
     pub valuesAreRead : IsReadAs message handles values
     pub objectsAreListed : IsListedAs message handles objects
+    pub bothAreRead : IsReadBothAs message handles values objects
     -- "writing what was read gives back the same bytes and handle count"
     pub roundTrip : IsWrittenAs values message handles
     -- "Its object list has one object for each claim of the walk, unknown out-of-line content included, and no other"
@@ -98,6 +113,8 @@ module _ (rows members : List ℕ) (root : ℕ) where
     pub equalValuesExactlyWhenEqual : (message message₂ : List ℕ) (handles handles₂ : ℕ) (values values₂ : List ℕ) → Octets message → Octets message₂
         → IsReadAs message handles values → IsReadAs message₂ handles₂ values₂ → (values ≡ values₂) ↔ ((message ≡ message₂) × (handles ≡ handles₂))
     pub canonical : (message : List ℕ) (handles : ℕ) → Octets message → Checks rows members root message handles Checked.Accepted → Canonical message handles
-    -- The round trip by calls: whatever the reader gave into a list, the writer given that list writes the message that was read.
+    -- The round trip by calls: whatever a reader gave into a list, the writer given that list writes the message that was read.
     pub roundTrip : (message : List ℕ) (handles : ℕ) → Octets message → (lent lent′ : List ℕ) (count : ℕ)
         → ReadsValues rows members root message handles lent lent′ (One.Accepted count) → IsWrittenAs (take count lent′) message handles
+    pub roundTripOfBoth : (message : List ℕ) (handles : ℕ) → Octets message → (lent lent′ lentObjects lentObjects′ : List ℕ) (counts : Lengths)
+        → Reads rows members root message handles lent lent′ lentObjects lentObjects′ (Both.Accepted counts) → IsWrittenAs (take (counts .values) lent′) message handles

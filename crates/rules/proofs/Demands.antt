@@ -22,8 +22,8 @@ use Rattle.rules.specs.Encode as E
 use Rattle.rules.specs.Encode.{Encoded, wrote, cannot}
 use Rattle.rules.specs.Walk as W
 use Rattle.rules.specs.Writer as R
-use Rattle.rules.specs.Answers.{walk, Reading, finished, judged, check, readValues, readObjects, Written, closed, encode, written, write}
-use Rattle.rules.specs.Demands.{message, Accepted, HasValue, HasObjects, IsWrittenTo, Demand2, Canonical, Demand3}
+use Rattle.rules.specs.Answers.{walk, Reading, finished, judged, check, readValues, readObjects, read, Written, closed, encode, written, write}
+use Rattle.rules.specs.Demands.{message, Accepted, HasValue, HasObjects, HasBoth, IsWrittenTo, Demand2, Canonical, Demand3}
 use Rattle.rules.proofs.Bytes.{StandsAt, stands-nil, octets-nil}
 use Rattle.rules.proofs.Trace.{allHandles, UnknownAreObjects}
 use Rattle.rules.proofs.Twins.{WellFormed, Decodes, decodes, Encodes, Twins}
@@ -191,6 +191,10 @@ module _ (t : TypeTable) (root : ℕ) where
       let b : leb (length (objectList (r .trace))) room ≡ true = room-enough _ room h in
       rw (e, b)
 
+  both-of : (bytes values objects : List ℕ) (handles : ℕ) → HasValue t root bytes handles values → HasObjects t root bytes handles objects → HasBoth t root bytes handles values objects
+  unfolding read
+  both-of bytes values objects handles v o values-room objects-room values-fit objects-fit = rw (o objects-room objects-fit, v values-room values-fit)
+
   written-to : (values bytes : List ℕ) (handles : ℕ) → written t root values ≡ accepted (record { bytes = bytes; handles = handles }) → IsWrittenTo t root values bytes handles
   unfolding write
   written-to values bytes handles e room h =
@@ -234,7 +238,8 @@ module _ (t : TypeTable) (root : ℕ) where
     );
     readingGivesTheValue = λ bytes handles values w.
         let i = reads (message t root bytes handles) root values (written-inv values bytes handles w) in
-        value-of bytes values handles _ (i .1) refl;
+        let v = value-of bytes values handles _ (i .1) refl in
+        (v, (objectList (i .0), both-of bytes values (objectList (i .0)) handles v (objects-of bytes handles _ (i .1))));
     writingGivesTheMessage = λ bytes handles values oct v.
         let i = value-inv bytes values handles v in
         let w : IsWrittenTo t root (i .0 .values) bytes handles = encoded bytes handles (i .0) oct (i .1) in
@@ -253,6 +258,7 @@ module _ (t : TypeTable) (root : ℕ) where
         traceIsTheWalks = rw (p .walked);
         hasValue = value-of bytes (r .values) handles r e refl;
         hasObjects = objects-of bytes handles r e;
+        hasBoth = both-of bytes (r .values) (objectList (r .trace)) handles (value-of bytes (r .values) handles r e refl) (objects-of bytes handles r e);
         roundTrip = encoded bytes handles r oct e;
         objectsAreClaims = refl;
         unknownContentIsAnObject = s .unknowns;
