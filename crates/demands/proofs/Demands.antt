@@ -1,12 +1,12 @@
--- The three demands of specs/Demands.antt, proved: from those of the rules, by the promises of the public functions.
+-- Demands 2 and 3 of specs/Demands.antt, proved: from those of the rules, by the promises of the public functions.
 -- Assumes nothing.
 use mathlib.Core.Path.{_≡_, refl, sym, ap, _∙_}
 use mathlib.Core.List.{List, [], _++_, append-nil}
 use Prim.Native.Nat.{ℕ, _≤_}
 use native.Mathlib.Omega.{arith}
 use lib.ListN.{length, take, drop}
-use lib.Seq.{drop-length, take-at, drop-at}
-use Rattle.rules.specs.Refusals.{Answer, accepted, refused, andThen, lentAfter}
+use lib.Seq.{drop-length, take-at}
+use Rattle.rules.specs.Refusals.{Answer, accepted, refused, lentAfter}
 use Rattle.rules.specs.Bytes.{Octets}
 use Rattle.rules.specs.TypeTable.{TypeTable, typeTable}
 use Rattle.rules.specs.Decode.{Message}
@@ -29,7 +29,7 @@ use Rattle.writer.specs.declared.Written.{Written}
 use Rattle.writer.specs.declared.Written.the-variants as Whole
 use Rattle.writer.specs.Answers.{writtenOf, sizesOf}
 use Rattle.demands.specs.Promises.{Checks, ReadsValues, ReadsObjects, Reads, Writes}
-use Rattle.demands.specs.Demands.{Keeps, IsReadAs, IsListedAs, IsReadBothAs, IsWrittenAs, Demand1, Demand2, Canonical, Demand3}
+use Rattle.demands.specs.Demands.{IsReadAs, IsListedAs, IsReadBothAs, IsWrittenAs, Demand2, Canonical, Demand3}
 use Rattle.demands.proofs.More.{values-more, objects-more, write-more, each-of}
 
 -- ---- answers
@@ -74,41 +74,6 @@ writtenAs (refused f) = Whole.Refused f
 written-as : (a : Answer Sizes) → writtenOf (writtenAs a) ≡ a
 written-as (accepted sizes) = refl
 written-as (refused f) = refl
-
--- ---- demand 1
-
-keeps : (answer : Answer ℕ) (given : Answer (List ℕ)) (lent after : List ℕ) → answer ≡ lengthOf given → after ≡ lentAfter given lent → Keeps answer lent after
-keeps answer (accepted list) lent after e l = rw (e, l) (drop-at list (drop (length list) lent) (length list) refl)
-keeps answer (refused f) lent after e l = rw e l
-
-value-count : (read : Answer Lists) → andThen (lengthsOf read) (λ n. accepted (n .values)) ≡ lengthOf (valuesIn read)
-value-count (accepted lists) = refl
-value-count (refused f) = refl
-
-object-count : (read : Answer Lists) → andThen (lengthsOf read) (λ n. accepted (n .objects)) ≡ lengthOf (objectsIn read)
-object-count (accepted lists) = refl
-object-count (refused f) = refl
-
-byte-count : (write : Answer Rules.Written) → andThen (sizesOf write) (λ n. accepted (n .bytes)) ≡ lengthOf (andThen write (λ w. accepted (w .bytes)))
-byte-count (accepted w) = refl
-byte-count (refused f) = refl
-
-module _ (rows members : List ℕ) (root : ℕ) where
-  pub demand1 : Demand1 rows members root
-  demand1 = record {
-    valuesKeep = λ {message} {values} {values′} {handles} r p.
-        keeps (givenOf r) (Rules.readValues (Doing.message (typeTable rows members) message handles) root (length values)) values values′ (p .answer) (p .list);
-    objectsKeep = λ {message} {objects} {objects′} {handles} r p.
-        keeps (givenOf r) (Rules.readObjects (Doing.message (typeTable rows members) message handles) root (length objects)) objects objects′ (p .answer) (p .list);
-    bothKeep = λ {message} {values} {values′} {objects} {objects′} {handles} r p.
-        let read = Rules.read (Doing.message (typeTable rows members) message handles) root (length values) (length objects) in (
-          keeps (andThen (readingOf r) (λ n. accepted (n .values))) (valuesIn read) values values′ (rw (p .answer) (value-count read)) (p .values-list),
-          keeps (andThen (readingOf r) (λ n. accepted (n .objects))) (objectsIn read) objects objects′ (rw (p .answer) (object-count read)) (p .objects-list),
-        );
-    outputKeeps = λ {values} {out} {out′} r p.
-        let write = Rules.write (typeTable rows members) root values (length out) in
-        keeps (andThen (writtenOf r) (λ n. accepted (n .bytes))) (andThen write (λ w. accepted (w .bytes))) out out′ (rw (p .answer) (byte-count write)) (p .output);
-  }
 
 -- ---- given room
 

@@ -1,12 +1,11 @@
--- The customer's three demands, of the public functions as their promises stand (Promises.antt). They hold for every type table
--- and root: where the table is not sound or the root not allowed, nothing is accepted or written. A message is a list of bytes,
--- `Octets`. Their proofs: proofs/Demands.antt.
+-- The customer's demands 2 and 3, of the public functions as their promises stand (Promises.antt); demand 1: Demand1.antt. They hold
+-- for every type table and root: where the table is not sound or the root not allowed, nothing is accepted or written. A message
+-- is a list of bytes, `Octets`. Their proofs: proofs/Demands.antt.
 use mathlib.Core.List.{List, _++_}
 use mathlib.Core.Logic.{_↔_}
 use mathlib.Core.Path.{_≡_}
 use Prim.Native.Nat.{ℕ, _+_, _≤_}
 use lib.ListN.{length, take, drop}
-use Rattle.rules.specs.Refusals.{Answer, accepted, refused, andThen}
 use Rattle.rules.specs.Bytes.{Octets}
 use Rattle.rules.specs.TypeTable.{typeTable}
 use Rattle.rules.specs.Trace.{Event, objectList, presentHandles, unknownHandles, unknownOutOfLine, Tiles, FillsAreZero, unknownLengths, PresentHandlesAreOnes}
@@ -20,30 +19,11 @@ use Rattle.reader.specs.declared.Lengths.{Lengths}
 use Rattle.reader.specs.declared.Reading.{Reading}
 use Rattle.reader.specs.declared.Reading.the-variants as Both
 use Rattle.walk_leaves.specs.Doing as Doing
-use Rattle.reader.specs.Answers.{givenOf, readingOf}
 use Rattle.writer.specs.declared.Written.{Written}
 use Rattle.writer.specs.declared.Written.the-variants.{Accepted}
-use Rattle.writer.specs.Answers.{writtenOf}
 use Rattle.demands.specs.Promises.{Checks, ReadsValues, ReadsObjects, Reads, Writes}
 
--- A lent list after an operation: "Past a written message or list all keeps what it held"; on a refusal everything does.
-abbrev pub Keeps : (given : Answer ℕ) (lent after : List ℕ) → Type 0
-Keeps (accepted count) lent after = drop count after ≡ drop count lent
-Keeps (refused f) lent after = after ≡ lent
-
 module _ (rows members : List ℕ) (root : ℕ) where
-  -- ---- demand 1
-
-  -- Anything is answered, by an equation with the rules (Promises.antt), and what is lent is safe: nothing changes but the list or
-  -- message given. That the functions ask nothing of their caller: proofs/Promises.antt.
-  pub record Demand1 : Type 0 where
-    pub valuesKeep : {message values values′ : List ℕ} {handles : ℕ} (r : Given) → ReadsValues rows members root message handles values values′ r → Keeps (givenOf r) values values′
-    pub objectsKeep : {message objects objects′ : List ℕ} {handles : ℕ} (r : Given) → ReadsObjects rows members root message handles objects objects′ r
-        → Keeps (givenOf r) objects objects′
-    pub bothKeep : {message values values′ objects objects′ : List ℕ} {handles : ℕ} (r : Reading) → Reads rows members root message handles values values′ objects objects′ r
-        → Keeps (andThen (readingOf r) (λ n. accepted (n .values))) values values′ × Keeps (andThen (readingOf r) (λ n. accepted (n .objects))) objects objects′
-    pub outputKeeps : {values out out′ : List ℕ} (r : Written) → Writes rows members root values out out′ r → Keeps (andThen (writtenOf r) (λ n. accepted (n .bytes))) out out′
-
   -- ---- demand 2
 
   -- "Its value is its value list": given room, the reader hands it back, and changes nothing past it.

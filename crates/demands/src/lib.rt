@@ -1,5 +1,6 @@
 // Demand 3's round trip as a function: a message is checked and read, and what was read is written and compared. Its promise
-// says that the message comes back each time. What the three demands say of all public functions: specs/Demands.antt.
+// says that the message comes back each time. What the three demands say of all public functions: specs/Demand1.antt and
+// specs/Demands.antt.
 ghost use mathlib.Core.Path.{_≡_};
 ghost use mathlib.Core.List.{_++_};
 ghost use Prim.Native.Nat.{_≤_};

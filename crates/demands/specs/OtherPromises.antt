@@ -1,0 +1,58 @@
+-- What layout calculator, header, text and round trip promise, each as its `ensures` says it: of what is handed in, the lists lent
+-- before and after, and the answer. That these are the functions' own promises: proofs/OtherPromises.antt.
+use mathlib.Core.Bool.{Bool}
+use mathlib.Core.List.{List}
+use mathlib.Core.Path.{_≡_}
+use Prim.Native.Nat.{ℕ}
+use lib.ListN.{length}
+use Rattle.rules.specs.Refusals.{lentAfter}
+use Rattle.rules.specs.Bytes.{part}
+use Rattle.rules.specs.TypeTable.{typeTable}
+use Rattle.rules.specs.Text.{isUtf8}
+use Rattle.rules.specs.Answers.{layoutAnswer, outputAfter}
+use Rattle.rules.specs.Header as Rules
+use Rattle.layout.specs.declared.LayoutAnswer.{LayoutAnswer}
+use Rattle.layout.specs.Answers as Layout
+use Rattle.header.specs.declared.Header.{Header}
+use Rattle.header.specs.declared.HeaderAnswer.{HeaderAnswer}
+use Rattle.header.specs.declared.HeaderWritten.{HeaderWritten}
+use Rattle.header.specs.Meaning as Meaning
+use Rattle.walk_leaves.specs.Doing as Doing
+use Rattle.demands.specs.declared.Trip.{Trip}
+use Rattle.demands.specs.Trips.{trip, tripValues, tripOf}
+
+-- layout::layout_of
+pub record LaysOut (rows members : List ℕ) (row : ℕ) (r : LayoutAnswer) : Type 0 where
+  pub answer : Layout.answerOf r ≡ layoutAnswer (typeTable rows members) row
+
+-- layout::root_allowed
+pub record AllowsRoot (rows : List ℕ) (root : ℕ) (r : Bool) : Type 0 where
+  pub answer : Layout.RootIs rows root r
+
+-- header::read_header
+pub record ReadsHeader (message : List ℕ) (r : HeaderAnswer) : Type 0 where
+  pub answer : Meaning.answerOf r ≡ Rules.readHeader message
+
+-- header::body: the part that is handed back, and by block and offset where message and part start
+pub record HandsBody (message : List ℕ) (at : ℕ × ℕ) (body : List ℕ) (body-at : ℕ × ℕ) : Type 0 where
+  pub bytes : body ≡ Rules.body message
+  pub start : body-at ≡ Meaning.bodyStart (Rules.readHeader message) at
+
+-- header::write_header
+pub record WritesHeader (header : Header) (out out′ : List ℕ) (r : HeaderWritten) : Type 0 where
+  pub answer : Meaning.writtenOf r ≡ Meaning.byteCount (Rules.writeHeader (Meaning.headerOf header) (length out))
+  pub output : out′ ≡ lentAfter (Rules.writeHeader (Meaning.headerOf header) (length out)) out
+
+-- text::is_utf8
+pub record IsText (bytes : List ℕ) (at count : ℕ) (r : Bool) : Type 0 where
+  pub answer : r ≡ isUtf8 (part bytes at count)
+
+-- text::are_utf8
+pub record AreText (numbers : List ℕ) (r : Bool) : Type 0 where
+  pub answer : r ≡ isUtf8 numbers
+
+-- demands::round_trip
+pub record RoundTrips (rows members : List ℕ) (root : ℕ) (message : List ℕ) (handles : ℕ) (values values′ out out′ : List ℕ) (r : Trip) : Type 0 where
+  pub answer : r ≡ tripOf (trip (Doing.message (typeTable rows members) message handles) root (length values) (length out))
+  pub values-list : values′ ≡ lentAfter (tripValues (Doing.message (typeTable rows members) message handles) root (length values) (length out)) values
+  pub output : out′ ≡ outputAfter (trip (Doing.message (typeTable rows members) message handles) root (length values) (length out)) out
