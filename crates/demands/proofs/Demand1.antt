@@ -3,13 +3,13 @@
 -- Assumes nothing.
 use mathlib.Core.Path.{_≡_, refl, sym, _∙_}
 use mathlib.Core.Logic.{_↔_}
-use mathlib.Core.List.{List, []}
-use Prim.Native.Nat.{ℕ}
+use mathlib.Core.List.{List, [], _∷_, append-nil}
+use Prim.Native.Nat.{ℕ, suc, _+_, _≤_}
 use native.Mathlib.Omega.{arith}
-use lib.ListN.{length, drop}
-use lib.Seq.{drop-at}
+use lib.ListN.{length, drop, set}
+use lib.Seq.{drop-at, drop-set-lt, sets}
 use Rattle.rules.specs.declared.Fault.{Fault}
-use Rattle.rules.specs.Refusals.{Answer, accepted, refused, andThen, lentAfter}
+use Rattle.rules.specs.Refusals.{placeNumber, Answer, accepted, refused, andThen, lentAfter}
 use Rattle.rules.specs.TypeTable.{typeTable}
 use Rattle.rules.specs.Answers as Rules
 use Rattle.rules.specs.Answers.{Lists}
@@ -18,6 +18,7 @@ use Rattle.header.specs.Meaning as Meaning
 use Rattle.walk_leaves.specs.Doing as Doing
 use Rattle.reader.specs.Answers.{givenOf, readingOf, lengthOf, lengthsOf, valuesIn, objectsIn}
 use Rattle.writer.specs.Answers.{writtenOf, sizesOf}
+use Rattle.listing.specs.Listing.{head, listingOf, listing}
 use Rattle.demands.specs.declared.Trip.{Trip}
 use Rattle.demands.specs.declared.Trip.the-variants.{Refused}
 use Rattle.demands.specs.Trips.{trip, tripValues, tripOf}
@@ -43,6 +44,9 @@ trip-refused r ruled e f = (λ q. go ruled (sym q ∙ e), λ q. e ∙ rw q)
     go (accepted w) z = absurd (let y : _≡_ {A = ℕ} 0 1 = cc in omega arith)
     go (refused h) z = let y : f ≡ h = cc in rw y
 
+listing-refused : (bytes : ℕ) {answer : Answer Lists} {f : Fault} → answer ≡ refused f → listingOf bytes answer ≡ head (f .number) (placeNumber (f .place))
+listing-refused bytes {f = f} e = rw e (append-nil (head (f .number) (placeNumber (f .place))))
+
 -- ---- lent lists
 
 keeps : (answer : Answer ℕ) (given : Answer (List ℕ)) (lent after : List ℕ) → answer ≡ lengthOf given → after ≡ lentAfter given lent → Keeps answer lent after
@@ -65,10 +69,15 @@ output-count : (write : Answer Rules.Written) → andThen write (λ w. accepted 
 output-count (accepted w) = refl
 output-count (refused f) = refl
 
+-- Past numbers that are stored nothing changes, whether there is room for them or not.
+past-stored : (list lent : List ℕ) (at count : ℕ) → at + length list ≤ count → drop count (sets lent at list) ≡ drop count lent
+past-stored [] lent at count h = refl
+past-stored (x ∷ list) lent at count h = past-stored list (set lent at x) (suc at) count (omega arith) ∙ drop-set-lt count lent at x (omega arith)
+
 -- ---- the demand
 
 pub demand1 : Demand1
-unfolding HeaderRules.body
+unfolding HeaderRules.body listing
 demand1 = record {
   check = λ {rows} {members} {message} {root} {handles} r p. refuses-same _ _ (p .answer);
   readValues = λ {rows} {members} {message} {values} {values′} {root} {handles} r p.
@@ -94,6 +103,8 @@ demand1 = record {
   writeHeader = λ {out} {out′} header r p.
       let write = HeaderRules.writeHeader (Meaning.headerOf header) (length out) in
       (refuses-told (Meaning.writtenOf r) write length (p .answer), keeps (Meaning.writtenOf r) write out out′ (p .answer) (p .output));
+  listed = λ {message} {out} {out′} {count} p.
+      (λ f e. listing-refused (length message) e, rw (p .output) (past-stored (listing message) out 0 count (omega (arith, p .answer))));
   roundTrip = λ {rows} {members} {message} {values} {values′} {out} {out′} {root} {handles} r p.
       let m = Doing.message (typeTable rows members) message handles in
       let whole = trip m root (length values) (length out) in (

@@ -19,9 +19,11 @@ use Rattle.text.proofs.is_utf8.Kinds as bytes-kinds
 use Rattle.text.proofs.is_utf8.Reads as bytes
 use Rattle.text.proofs.are_utf8.Kinds as numbers-kinds
 use Rattle.text.proofs.are_utf8.Reads as numbers
+use Rattle.listing.proofs.listing.Kinds as listing-kinds
+use Rattle.listing.proofs.listing.Reads as listing
 use Rattle.demands.proofs.round_trip.Kinds as trip-kinds
 use Rattle.demands.proofs.round_trip.Reads as trip
-use Rattle.demands.specs.OtherPromises.{LaysOut, AllowsRoot, ReadsHeader, HandsBody, WritesHeader, IsText, AreText, RoundTrips}
+use Rattle.demands.specs.OtherPromises.{LaysOut, AllowsRoot, ReadsHeader, HandsBody, WritesHeader, IsText, AreText, Lists, RoundTrips}
 
 module _ (κs : Lfts 2) (a : Dens κs layout-kinds.ps) where
   pub layout-of-asks-nothing : layout.Asked κs a
@@ -78,6 +80,14 @@ module _ (κs : Lfts 1) (a : Dens κs numbers-kinds.ps) where
   pub are-utf8-promises : (r : resT numbers-kinds.r κs .Denot) (s : AtExit (endedOf 1 numbers-kinds.ps numbers-kinds.r) κs) → numbers.Learnt κs a r s
       → AreText (now (a .0)) r
   are-utf8-promises r s l = record { answer = l }
+
+module _ (κs : Lfts 2) (a : Dens κs listing-kinds.ps) where
+  pub listing-asks-nothing : listing.Asked κs a
+  listing-asks-nothing = tt
+
+  pub listing-promises : (r : resT listing-kinds.r κs .Denot) (s : AtExit (endedOf 2 listing-kinds.ps listing-kinds.r) κs) → listing.Learnt κs a r s
+      → Lists (now (a .0)) (now (a .1 .0)) (now (s .1 .0)) r
+  listing-promises r s l = record { answer = l .0; output = l .1 .0 }
 
 module _ (κs : Lfts 5) (a : Dens κs trip-kinds.ps) where
   pub round-trip-asks-nothing : trip.Asked κs a

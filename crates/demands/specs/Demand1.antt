@@ -8,7 +8,7 @@ use mathlib.Core.Path.{_≡_}
 use Prim.Native.Nat.{ℕ}
 use lib.ListN.{length, drop}
 use Rattle.rules.specs.declared.Fault.{Fault}
-use Rattle.rules.specs.Refusals.{Answer, accepted, refused, andThen}
+use Rattle.rules.specs.Refusals.{placeNumber, Answer, accepted, refused, andThen}
 use Rattle.rules.specs.TypeTable.{typeTable}
 use Rattle.rules.specs.Answers as Rules
 use Rattle.rules.specs.Header as HeaderRules
@@ -25,11 +25,12 @@ use Rattle.walk_leaves.specs.Doing as Doing
 use Rattle.reader.specs.Answers.{verdictOf, givenOf, readingOf}
 use Rattle.writer.specs.declared.Written.{Written}
 use Rattle.writer.specs.Answers.{writtenOf}
+use Rattle.listing.specs.Listing.{head, answered, listing}
 use Rattle.demands.specs.declared.Trip.{Trip}
 use Rattle.demands.specs.declared.Trip.the-variants.{Refused}
 use Rattle.demands.specs.Promises.{Checks, ReadsValues, ReadsObjects, Reads, Writes}
 use Rattle.demands.specs.Trips.{trip, tripValues}
-use Rattle.demands.specs.OtherPromises.{LaysOut, ReadsHeader, HandsBody, WritesHeader, RoundTrips}
+use Rattle.demands.specs.OtherPromises.{LaysOut, ReadsHeader, HandsBody, WritesHeader, Lists, RoundTrips}
 
 -- A refusal that is answered is the one that the rules give, number and place, and theirs is answered.
 abbrev pub Refuses : {A B : Type 0} → (answered : Answer A) (ruled : Answer B) → Type 0
@@ -59,6 +60,9 @@ pub record Demand1 : Type 0 where
   pub body : {message body : List ℕ} {at body-at : ℕ × ℕ} → HandsBody message at body body-at → (f : Fault) → HeaderRules.readHeader message ≡ refused f → (body ≡ []) × (body-at ≡ at)
   pub writeHeader : {out out′ : List ℕ} (header : Header) (r : HeaderWritten) → WritesHeader header out out′ r
       → Refuses (Meaning.writtenOf r) (HeaderRules.writeHeader (Meaning.headerOf header) (length out)) × Keeps (Meaning.writtenOf r) out out′
+  -- A listing tells a refusal, in its two lines, and nothing past it changes.
+  pub listed : {message out out′ : List ℕ} {count : ℕ} → Lists message out out′ count
+      → ((f : Fault) → answered message ≡ refused f → listing message ≡ head (f .number) (placeNumber (f .place))) × (drop count out′ ≡ drop count out)
   pub roundTrip : {rows members message values values′ out out′ : List ℕ} {root handles : ℕ} (r : Trip) → RoundTrips rows members root message handles values values′ out out′ r
       → ((f : Fault) → (r ≡ Refused f) ↔ (trip (Doing.message (typeTable rows members) message handles) root (length values) (length out) ≡ refused f))
       × Keeps (andThen (tripValues (Doing.message (typeTable rows members) message handles) root (length values) (length out)) (λ list. accepted (length list))) values values′

@@ -1,10 +1,11 @@
--- What layout calculator, header, text and round trip promise, each as its `ensures` says it: of what is handed in, the lists lent
+-- What layout calculator, header, text, listing and round trip promise, each as its `ensures` says it: of what is handed in, the lists lent
 -- before and after, and the answer. That these are the functions' own promises: proofs/OtherPromises.antt.
 use mathlib.Core.Bool.{Bool}
 use mathlib.Core.List.{List}
 use mathlib.Core.Path.{_≡_}
 use Prim.Native.Nat.{ℕ}
 use lib.ListN.{length}
+use lib.Seq.{sets}
 use Rattle.rules.specs.Refusals.{lentAfter}
 use Rattle.rules.specs.Bytes.{part}
 use Rattle.rules.specs.TypeTable.{typeTable}
@@ -18,6 +19,7 @@ use Rattle.header.specs.declared.HeaderAnswer.{HeaderAnswer}
 use Rattle.header.specs.declared.HeaderWritten.{HeaderWritten}
 use Rattle.header.specs.Meaning as Meaning
 use Rattle.walk_leaves.specs.Doing as Doing
+use Rattle.listing.specs.Listing.{listing}
 use Rattle.demands.specs.declared.Trip.{Trip}
 use Rattle.demands.specs.Trips.{trip, tripValues, tripOf}
 
@@ -50,6 +52,11 @@ pub record IsText (bytes : List ℕ) (at count : ℕ) (r : Bool) : Type 0 where
 -- text::are_utf8
 pub record AreText (numbers : List ℕ) (r : Bool) : Type 0 where
   pub answer : r ≡ isUtf8 numbers
+
+-- listing::listing
+pub record Lists (message out out′ : List ℕ) (count : ℕ) : Type 0 where
+  pub answer : count ≡ length (listing message)
+  pub output : out′ ≡ sets out 0 (listing message)
 
 -- demands::round_trip
 pub record RoundTrips (rows members : List ℕ) (root : ℕ) (message : List ℕ) (handles : ℕ) (values values′ out out′ : List ℕ) (r : Trip) : Type 0 where
