@@ -2,7 +2,7 @@
 -- Assumes nothing.
 use mathlib.Core.Path.{_≡_, refl, sym}
 use mathlib.Core.List.{List, [], _∷_}
-use Prim.Native.Nat.{ℕ, zero, suc, _+_, _-_, _*_, _/_, _≤_, _<_}
+use Prim.Native.Nat.{ℕ, zero, suc, _+_, _-_, _≤_, _<_}
 use native.Mathlib.Nat.{add-zero}
 use native.Mathlib.Numerals.{add-one}
 use native.Mathlib.Omega.{arith}
@@ -11,7 +11,7 @@ use lib.ListN.{length, set, take, drop}
 use lib.Seq.{sets}
 use Rattle.rules.specs.declared.Place.the-variants.{Byte}
 use Rattle.rules.specs.Refusals.{fault, objectDoesNotFit, fillNotZero}
-use Rattle.rules.specs.Bytes.{part, leadingZeros, roundUp, padded}
+use Rattle.rules.specs.Bytes.{part, leadingZeros, padded}
 use Rattle.rules.specs.Trace.{objectList}
 use Rattle.rules.specs.Decode as D
 use Rattle.walk_leaves.specs.declared.cursor.Cursor.{Cursor}
@@ -53,29 +53,25 @@ four-stores l i a b c d p q r s =
     let f : i + 3 ≡ suc (suc (suc i)) = omega arith in
     rw (s, r, q, p, add-one i, e, f)
 
--- an object's length with its fill, as the code has it
-abbrev pub whole : ℕ → ℕ
-whole size = (size + 7) / 8 * 8
-
-module _ (bytes objects : List ℕ) (kind row size : ℕ) (c : Cursor) where
-  pub claim-unfit : {r : Walked} → length bytes - c .next < whole size → r ≡ Refused (fault objectDoesNotFit (Byte (c .next)))
+module _ (bytes objects : List ℕ) (kind row size : ℕ) (c : Cursor) {whole : ℕ} (w : whole ≡ padded size) where
+  pub claim-unfit : {r : Walked} → length bytes - c .next < whole → r ≡ Refused (fault objectDoesNotFit (Byte (c .next)))
       → DidObjects bytes objects objects 4 0 c r (claimAt kind row size)
-  unfolding claimAt padded roundUp
-  claim-unfit h e t values handles free held = simp (e, lt-leb (c .next + whole size) (length bytes) (omega arith)) did-stop
+  unfolding claimAt
+  claim-unfit h e t values handles free held = simp (e, ← w, lt-leb (c .next + whole) (length bytes) (omega arith)) did-stop
 
-  module _ (fits : whole size ≤ length bytes - c .next) {zeros : ℕ} (e : zeros ≡ leadingZeros (part bytes (c .next + size) (whole size - size))) where
-    pub claim-unfilled : {r : Walked} → zeros < whole size - size → r ≡ Refused (fault fillNotZero (Byte (c .next + size + zeros)))
+  module _ (fits : whole ≤ length bytes - c .next) {zeros : ℕ} (e : zeros ≡ leadingZeros (part bytes (c .next + size) (whole - size))) where
+    pub claim-unfilled : {r : Walked} → zeros < whole - size → r ≡ Refused (fault fillNotZero (Byte (c .next + size + zeros)))
         → DidObjects bytes objects objects 4 0 c r (claimAt kind row size)
-    unfolding claimAt padded roundUp
+    unfolding claimAt
     claim-unfilled h f t values handles free held =
-        simp (f, ← e, le-leb (c .next + whole size) (length bytes) (omega arith), ne-eqb zeros (whole size - size) (λ q. omega arith)) did-stop
+        simp (f, ← w, ← e, le-leb (c .next + whole) (length bytes) (omega arith), ne-eqb zeros (whole - size) (λ q. omega arith)) did-stop
 
-    pub claim-given : {objects′ : List ℕ} → whole size - size ≤ zeros → objects′ ≡ sets objects (c .objects) (kind ∷ row ∷ c .next ∷ size ∷ [])
-        → DidObjects bytes objects objects′ 4 0 c (On (record { next = c .next + whole size; handles = c .handles; values = c .values; objects = c .objects + 4 })) (claimAt kind row size)
-    unfolding claimAt padded roundUp objectList
+    pub claim-given : {objects′ : List ℕ} → whole - size ≤ zeros → objects′ ≡ sets objects (c .objects) (kind ∷ row ∷ c .next ∷ size ∷ [])
+        → DidObjects bytes objects objects′ 4 0 c (On (record { next = c .next + whole; handles = c .handles; values = c .values; objects = c .objects + 4 })) (claimAt kind row size)
+    unfolding claimAt objectList
     claim-given h f t values handles free held =
-        simp (le-leb (c .next + whole size) (length bytes) (omega arith), eq-eqb _ _ (all-zeros bytes (c .next + size) (whole size - size) e h)) (record {
-          says = cursor-same (c .next + whole size) (c .handles) (sym (add-zero (c .values))) refl;
+        simp (← w, le-leb (c .next + whole) (length bytes) (omega arith), eq-eqb _ _ (all-zeros bytes (c .next + size) (whole - size) e h)) (record {
+          says = cursor-same (c .next + whole) (c .handles) (sym (add-zero (c .values))) refl;
           valued = refl;
           listed = f;
           within = (omega arith, held, omega arith);

@@ -46,7 +46,7 @@ pub fn claim(
     ensures { λ r. ⌜ DidObjects (now (bytes .entry)) (now (objects .entry)) (now (objects .exit)) 4 0 c r (claimAt kind row size) ⌝ }
 {
     let next = c.next;
-    let whole = (size + 7) / 8 * 8;
+    let whole = words::padded(size);
     if bytes.len() - next < whole {
         return refused(6, next);
     }

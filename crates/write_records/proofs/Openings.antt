@@ -1,6 +1,6 @@
 -- Records, and the objects that they open: the claim, one level down, and what is left then.
 -- Assumes nothing.
-use mathlib.Core.Path.{_≡_, refl, sym, ap}
+use mathlib.Core.Path.{_≡_, refl, ap}
 use mathlib.Core.Bool.{true, false}
 use mathlib.Core.List.{List, [], _∷_}
 use Prim.Native.Nat.{ℕ, suc, _+_, _-_, _*_, _/_, _≤_, _<_}
@@ -58,17 +58,17 @@ pub put-last : {values out out′ : List ℕ} {size at base : ℕ} {c : Cursor} 
     → Put values out out′ size at base c (Wrote.Refused (fault number (Index index))) (cannot number (suc (length (drop i values))))
 put-last {values} number i index e within = put-cannot number (suc (length (drop i values))) index (omega (arith, length-drop i values))
 
-module _ (size : ℕ) (c : Cursor) where
-  pub claim-over : {f : Fault} → 0 < c .index → 65536 - c .next < (size + 7) / 8 * 8 → f ≡ fault messageTooLong (Index (c .index - 1)) → ClaimOpens size c (Refused f)
+module _ (size : ℕ) (c : Cursor) {whole : ℕ} (w : whole ≡ padded size) where
+  pub claim-over : {f : Fault} → 0 < c .index → 65536 - c .next < whole → f ≡ fault messageTooLong (Index (c .index - 1)) → ClaimOpens size c (Refused f)
   claim-over i h e values out at base fields ask =
-      rw (e, claim-refused size fields (drop (c .index) values) (c .next) (c .handles) (omega (arith, padded-is size))) (put-last messageTooLong (c .index) (c .index - 1) (omega arith) (ask .left))
+      rw (e, claim-refused size fields (drop (c .index) values) (c .next) (c .handles) (omega arith)) (put-last messageTooLong (c .index) (c .index - 1) (omega arith) (ask .left))
 
-  pub claim-opened : (count : ℕ) → c .next ≤ 65536 → (size + 7) / 8 * 8 ≤ 65536 - c .next
-      → ClaimOpens size c (Open (record { count = count; start = c .next; cursor = record { next = c .next + (size + 7) / 8 * 8; handles = c .handles; index = c .index } }))
+  pub claim-opened : (count : ℕ) → c .next ≤ 65536 → whole ≤ 65536 - c .next
+      → ClaimOpens size c (Open (record { count = count; start = c .next; cursor = record { next = c .next + whole; handles = c .handles; index = c .index } }))
   claim-opened count n h values out at base fields ask =
-      let ends : c .next + padded size ≤ 65536 = omega (arith, padded-is size) in (
+      let ends : c .next + padded size ≤ 65536 = omega arith in (
         refl,
-        ap (λ (k : ℕ). record { next = c .next + k; handles = c .handles; index = c .index }) (sym (padded-is size)),
+        ap (λ (k : ℕ). record { next = c .next + k; handles = c .handles; index = c .index }) w,
         record { free = omega arith; held = ask .held; left = ask .left },
         λ out″ r q. rw (claim-goes size fields (drop (c .index) values) (c .next) (c .handles) ends) (put-anywhere 0 q),
       )

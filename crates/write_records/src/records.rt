@@ -40,7 +40,7 @@ pub fn claim(count: usize, size: usize, c: Cursor) -> Opened
     requires { ⌜ (c .next ≤ 65536) × (c .handles ≤ 64) × (0 < c .index) × (size < 281474976710656) ⌝ }
     ensures { λ r. ⌜ ClaimOpens size c r × HasCount count r × NotClosed r ⌝ }
 {
-    let whole = (size + 7) / 8 * 8;
+    let whole = words::padded(size);
     if 65536 - c.next < whole {
         return Opened::Refused(fault_at(3, c.index - 1));
     }
