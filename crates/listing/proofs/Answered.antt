@@ -18,6 +18,7 @@ use Rattle.reader.specs.Answers.{readingOf, lengthsOf, valuesIn, objectsIn}
 use Rattle.listing.specs.Lines.{largest, Puts}
 use Rattle.listing.specs.Listing.{messageOf, answered, head, body, listingOf, listing}
 use Rattle.listing.proofs.Putting.{puts-then}
+use Rattle.listing.proofs.Enough.{enough}
 
 -- What is left in lists that were lent to the reader, with its answer.
 abbrev pub Read : (answer : Answer Lists) (values objects : List ℕ) (reading : Reading) (values′ objects′ : List ℕ) → Type 0
@@ -70,13 +71,14 @@ too-long bytes long put =
     let e : answered bytes ≡ refused (fault 3 (Byte 0)) = simp (lt-leb _ _ long) in
     whole bytes (listing-is bytes e ∙ append-nil _) (omega arith) put
 
--- the reader's answer is the rules'
+-- the reader's answer is the rules': there is room enough
 abbrev pub Lent : (values objects : List ℕ) → Type 0
-Lent values objects = (8208 ≡ length values) × (8208 ≡ length objects)
+Lent values objects = (8196 ≡ length values) × (8196 ≡ length objects)
 
 answered-is : (bytes values objects : List ℕ) → length bytes ≤ 8192 → Lent values objects
     → answered bytes ≡ read (messageOf bytes) 4 (length values) (length objects)
-answered-is bytes values objects short lent = simp (le-leb _ _ short, sym (lent .0), sym (lent .1))
+answered-is bytes values objects short lent =
+    simp (le-leb _ _ short) (sym (enough (messageOf bytes) 4 (length values) (length objects) (omega arith) (omega arith)))
 
 module _
     (bytes values objects : List ℕ) (short : length bytes ≤ 8192) (lent : Lent values objects)

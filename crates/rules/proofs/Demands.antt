@@ -65,12 +65,12 @@ stands-self : (bytes : List ℕ) → StandsAt bytes 0 bytes
 stands-self bytes = record { fits = omega arith; same = part-whole bytes }
 
 -- Every test that an accepted message passed.
-record Passed (m : Message) (root : ℕ) (r : Reading) : Type 0 where
-  sound : soundness (m .table) ≡ accepted tt
-  allowed : rootAllowed (m .table) root ≡ true
-  short : leb (length (m .bytes)) 65536 ≡ true
-  few : leb (m .handles) 64 ≡ true
-  walked : walk m root ≡ went (length (m .bytes)) (m .handles) (r .values) (r .trace)
+pub record Passed (m : Message) (root : ℕ) (r : Reading) : Type 0 where
+  pub sound : soundness (m .table) ≡ accepted tt
+  pub allowed : rootAllowed (m .table) root ≡ true
+  pub short : leb (length (m .bytes)) 65536 ≡ true
+  pub few : leb (m .handles) 64 ≡ true
+  pub walked : walk m root ≡ went (length (m .bytes)) (m .handles) (r .values) (r .trace)
 
 finished-inv : (m : Message) (d : Decoded) (r : Reading) → finished m d ≡ accepted r → d ≡ went (length (m .bytes)) (m .handles) (r .values) (r .trace)
 finished-inv m (stopped f vs t) r e = absurd (refused-not-accepted e)
@@ -85,7 +85,7 @@ finished-inv m (went n u vs t) r e =
     let y : u ≡ m .handles = eqb-true u (m .handles) (j .0) in
     rw (x, y, v, w)
 
-passed : (m : Message) (root : ℕ) (r : Reading) → judged m root ≡ accepted r → Passed m root r
+pub passed : (m : Message) (root : ℕ) (r : Reading) → judged m root ≡ accepted r → Passed m root r
 unfolding judged
 passed m root r e =
     let s = then-accepted (soundness (m .table)) _ e in

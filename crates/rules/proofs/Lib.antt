@@ -1,4 +1,5 @@
 pub mod Cases
+pub mod Tests
 pub mod Bytes
 pub mod Trace
 pub mod Results
@@ -14,3 +15,4 @@ pub mod WalkEvents
 pub mod Demands
 pub mod Rooms
 pub mod Edition
+pub mod Amounts
