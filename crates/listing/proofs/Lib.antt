@@ -1,3 +1,4 @@
+pub mod Cases
 pub mod Enough
 pub mod Answered
 pub mod Digits
