@@ -1,23 +1,20 @@
 -- Laws of the number stream, for the code that goes over it by places.
 -- Assumes nothing.
 use mathlib.Core.Path.{_≡_, refl, sym, _∙_, ap}
-use mathlib.Core.Bool.{Bool, true, false, _&&_, and-false, false≢true}
+use mathlib.Core.Bool.{Bool, true, false, _&&_, and-false}
 use mathlib.Core.List.{List, [], _∷_}
-use Prim.Native.Nat.{ℕ, suc, _+_, _-_, _≤_, _<_, _%_, min}
+use Prim.Native.Nat.{ℕ, suc, _+_, _*_, _≤_, _<_, _%_, min}
 use native.Mathlib.Numerals.{add-one}
 use native.Mathlib.Omega.{arith}
-use borrow.Author.Tests.{leb-true, eq-eqb, ne-eqb}
+use borrow.Author.Tests.{leb-true, le-leb, lt-leb, eq-eqb, ne-eqb}
 use lib.Dec.{leb, eqb}
 use lib.ListN.{length, drop, getD, set, length-set, length-drop, drop-of-length-le}
 use lib.Seq.{sets, drop-cons, set-out, length-take-le}
 use Rattle.rules.specs.Refusals.{if_then_else_}
-use Rattle.stream.specs.Numbers.{isDigit, withDigit, numbersOf, lineLength, LineRead, narrowed, Narrows, sameNumbers}
+use Rattle.rules.proofs.Tests.{both}
+use Rattle.stream.specs.Numbers.{isDigit, withDigit, numbersOf, lineLength, LineRead, startAt, narrowed, Narrows, sameNumbers}
 
 -- ---- a line
-
-both : (a b : Bool) → a && b ≡ true → (a ≡ true) × (b ≡ true)
-both true b p = (refl, p)
-both false b p = absurd (false≢true p)
 
 pub digit-bounds : (byte : ℕ) → isDigit byte ≡ true → (48 ≤ byte) × (byte ≤ 57)
 digit-bounds byte digit =
@@ -185,3 +182,13 @@ module _ {limit : ℕ} {numbers lent stores : List ℕ} {at : ℕ} (stored : Sto
   all-stored ended =
       narrows (omega (arith, stored .inside, stored .within, stored .room))
       (rw (drop-of-length-le numbers ended) at (stored .put))
+
+-- ---- parts that are handed back
+
+-- Where a part starts, by its own place,
+pub start-inside : (numbers : List ℕ) (at : ℕ) (start : ℕ × ℕ) → at ≤ length numbers → (start .0, at * 8 + start .1) ≡ startAt numbers at start
+start-inside numbers at start inside = simp (le-leb at (length numbers) inside)
+
+-- and past the end.
+pub start-past : (numbers : List ℕ) (at : ℕ) (start : ℕ × ℕ) → length numbers < at → start ≡ startAt numbers at start
+start-past numbers at start past = simp (lt-leb at (length numbers) past)

@@ -5,7 +5,7 @@ use mathlib.Core.Bool.{Bool, true, false, _&&_}
 use mathlib.Core.List.{List, [], _∷_}
 use Prim.Native.Nat.{ℕ, suc, _+_, _-_, _*_, _%_, _≤_, min}
 use lib.Dec.{leb, eqb}
-use lib.ListN.{length, take}
+use lib.ListN.{length, take, drop, getD}
 use lib.Seq.{sets}
 use Rattle.rules.specs.Refusals.{if_then_else_}
 use Rattle.rules.specs.Bytes.{ones64}
@@ -34,6 +34,15 @@ pub record LineRead (bytes : List ℕ) (from : ℕ) (lent : List ℕ) (count nex
   pub counted : count ≡ length (numbersOf bytes 0)
   pub passed : next ≡ from + lineLength bytes
   pub put : after ≡ sets lent 0 (numbersOf bytes 0)
+
+-- The list whose length stands at a place of a case.
+abbrev pub listAt : (numbers : List ℕ) (at : ℕ) → List ℕ
+listAt numbers at = take (getD numbers at 0) (drop (at + 1) numbers)
+
+-- Where the part of a list from a place on starts, by block and offset, if it is handed back: in the list itself, 8 bytes a
+-- number; past its end, at its empty start.
+abbrev pub startAt : (numbers : List ℕ) (at : ℕ) → (start : ℕ × ℕ) → ℕ × ℕ
+startAt numbers at start = if leb at (length numbers) then (start .0, at * 8 + start .1) else start
 
 -- The remainders of numbers, as a narrower type holds them.
 unfoldable pub narrowed : (limit : ℕ) → List ℕ → List ℕ

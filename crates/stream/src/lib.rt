@@ -2,8 +2,9 @@
 // the line too. In a case a list stands as its length and then its numbers.
 ghost use mathlib.Core.Path.{_≡_};
 ghost use Prim.Native.Nat.{_+_, _≤_};
-ghost use lib.ListN.{take, drop, getD};
-ghost use Rattle.stream.specs.Numbers.{isDigit, withDigit, LineRead, Narrows, sameNumbers};
+ghost use denote.Ref.{ptr};
+ghost use lib.ListN.{take, drop};
+ghost use Rattle.stream.specs.Numbers.{isDigit, withDigit, LineRead, listAt, startAt, Narrows, sameNumbers};
 
 // How many numbers stand in a line, and where the next line starts.
 pub struct Line {
@@ -56,7 +57,8 @@ fn with_digit(value: u64, byte: u8) -> u64
 
 // The numbers from a place on,
 pub fn rest(numbers: &[u64], at: usize) -> &[u64]
-    ensures { λ r. ⌜ now r ≡ drop at (now (numbers .entry)) ⌝ }
+    ensures numbers { λ r. ⌜ now r ≡ drop at (now (numbers .entry)) ⌝ }
+    ensures start { λ r. ⌜ ptr r ≡ startAt (now (numbers .entry)) at (ptr (numbers .entry)) ⌝ }
 {
     if at <= numbers.len() {
         &numbers[at..]
@@ -67,7 +69,8 @@ pub fn rest(numbers: &[u64], at: usize) -> &[u64]
 
 // and so many from the first on.
 pub fn first(numbers: &[u64], count: usize) -> &[u64]
-    ensures { λ r. ⌜ now r ≡ take count (now (numbers .entry)) ⌝ }
+    ensures numbers { λ r. ⌜ now r ≡ take count (now (numbers .entry)) ⌝ }
+    ensures start { λ r. ⌜ ptr r ≡ ptr (numbers .entry) ⌝ }
 {
     if count <= numbers.len() {
         &numbers[..count]
@@ -78,7 +81,8 @@ pub fn first(numbers: &[u64], count: usize) -> &[u64]
 
 // The list whose length stands at a place of a case.
 pub fn list(case: &[u64], at: usize) -> &[u64]
-    ensures { λ r. ⌜ now r ≡ take (getD (now (case .entry)) at 0) (drop (at + 1) (now (case .entry))) ⌝ }
+    ensures numbers { λ r. ⌜ now r ≡ listAt (now (case .entry)) at ⌝ }
+    ensures start { λ r. ⌜ ptr r ≡ startAt (now (case .entry)) (at + 1) (ptr (case .entry)) ⌝ }
 {
     if case.len() <= at {
         return &case[..0];
