@@ -3,8 +3,27 @@
 ghost use mathlib.Core.Path.{_≡_};
 ghost use Prim.Native.Nat.{_+_, _≤_};
 ghost use denote.Ref.{ptr};
-ghost use lib.ListN.{take, drop};
-ghost use Rattle.stream.specs.Numbers.{isDigit, withDigit, LineRead, listAt, startAt, Narrows, sameNumbers};
+ghost use lib.ListN.{length, take, drop, replicate};
+ghost use Rattle.stream.specs.Numbers.{isDigit, withDigit, LineRead, listAt, startAt, Narrows, TablePut, sameNumbers};
+
+// Room for a stream, and for the numbers of a line of it.
+pub const TEXT_ROOM: usize = 524288;
+
+pub const LINE_ROOM: usize = 16384;
+
+pub fn text_room() -> [u8; TEXT_ROOM]
+    ensures zeros { λ r. ⌜ r ≡ replicate 524288 0 ⌝ }
+    ensures long { λ r. ⌜ 524288 ≡ length r ⌝ }
+{
+    [0; TEXT_ROOM]
+}
+
+pub fn line_room() -> [u64; LINE_ROOM]
+    ensures zeros { λ r. ⌜ r ≡ replicate 16384 0 ⌝ }
+    ensures long { λ r. ⌜ 16384 ≡ length r ⌝ }
+{
+    [0; LINE_ROOM]
+}
 
 // How many numbers stand in a line, and where the next line starts.
 pub struct Line {
@@ -118,6 +137,28 @@ pub fn to_words(numbers: &[u64], words: &mut [u32]) -> usize
         at += 1;
     }
     at
+}
+
+// How many numbers of a row list and of a member list were put into lent lists, and where the numbers after both start.
+pub struct Table {
+    pub rows: usize,
+    pub members: usize,
+    pub next: usize,
+}
+
+// Puts the row list and the member list that stand first into lent lists.
+pub fn put_table(numbers: &[u64], rows: &mut [u32], members: &mut [u32]) -> Table
+    ensures { λ r.
+        ⌜ TablePut (now (numbers .entry)) (now (rows .entry)) (now (members .entry)) (r .rows) (r .members) (r .next) (now (rows .exit)) (now (members .exit)) ⌝ }
+{
+    let row_list = list(numbers, 0);
+    let at_members = 1 + row_list.len();
+    let member_list = list(numbers, at_members);
+    Table {
+        rows: to_words(row_list, rows),
+        members: to_words(member_list, members),
+        next: at_members + 1 + member_list.len(),
+    }
 }
 
 // Are two lists of numbers equal?

@@ -13,6 +13,7 @@ use lib.ListN.{length, take, drop, getD, length-drop}
 use lib.Seq.{getD-drop, take-all}
 use Rattle.rules.specs.Refusals.{if_then_else_}
 use Rattle.rules.specs.Text.{Range, range, tail, holds, Form, form, forms, Led, led, notALead, leads}
+use Rattle.rules.proofs.Tests.{both}
 use Rattle.text.specs.Sequences.{Tail, lieIn, sequenceLed, sequenceOf}
 
 -- ---- lead bytes: the forms rise, so the bounds of a byte say which one leads
@@ -78,10 +79,6 @@ abbrev tailDue : (place : ℕ) (due : List Range) → Type 0
 tailDue place [] = ⊥
 tailDue zero (range low high ∷ due) = (0x80 ≤ low) × (high ≤ 0xBF)
 tailDue (suc place) (r ∷ due) = tailDue place due
-
-pub both : (a b : Bool) → a && b ≡ true → (a ≡ true) × (b ≡ true)
-both true b is = (refl, is)
-both false b is = absurd (false≢true is)
 
 within : (n low high : ℕ) → holds (range low high) n ≡ true → (low ≤ n) × (n ≤ high)
 within n low high is =

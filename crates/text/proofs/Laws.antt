@@ -13,8 +13,9 @@ use Rattle.rules.specs.Refusals.{if_then_else_}
 use Rattle.rules.specs.Text.{Range, holds, forms, Led, led, notALead, leads, follows, isUtf8}
 use Rattle.words.specs.Bits.{allBits}
 use Rattle.words.proofs.Bits.{part-none-above}
+use Rattle.rules.proofs.Tests.{both}
 use Rattle.text.specs.Sequences.{lieIn, sequenceLed, sequenceOf, Passes}
-use Rattle.text.proofs.Forms.{leads-form, both}
+use Rattle.text.proofs.Forms.{leads-form}
 
 -- ---- a text goes on after the sequence at a place, or is none
 
