@@ -31,29 +31,28 @@ unfolding zeros
 length-zeros zero = refl
 length-zeros (suc count) = ap suc (length-zeros count)
 
--- An object is written: its value was put into the rest of the output from the object's own offset on, at 0 there, and then its
--- fill. It takes no bytes in line.
-pub object-put : {values out lent part part′ out′ : List ℕ} {size at base : ℕ} {c : Cursor} {r : Wrote} {e : Encoded} → base ≤ c .next
-    → Put values part part′ size 0 (c .next) (opened size c) r e
-    → ((inline outside : List ℕ) → part′ ≡ sets (sets part 0 inline) (padded size) outside → lent ≡ sets (sets out (c .next - base) inline) (c .next - base + padded size) outside)
-    → out′ ≡ sets lent (c .next - base + size) (zeros (padded size - size))
-    → Put values out out′ 0 at base c r (E.asObject size e)
-object-put {values} {out} {lent} {part} {part′} {out′} {size} {at} {base} {c} {r} {e} within p l z = go e (p .says) (p .stored) (p .fit)
+-- An object stands in an output that starts with it: its value at 0, and then its fill. It takes no bytes in line.
+pub object-filled : {values out out′ out″ : List ℕ} {size : ℕ} {c : Cursor} {r : Wrote} {e : Encoded} → Put values out out′ size 0 (c .next) (opened size c) r e
+    → out″ ≡ sets out′ size (zeros (padded size - size)) → Put values out out″ 0 0 (c .next) c r (E.asObject size e)
+object-filled {values} {out} {out′} {out″} {size} {c} {r} {e} p z = go e (p .says) (p .stored) (p .fit)
   where
-    free : ℕ
-    free = c .next - base
+    here : c .next - c .next ≡ 0
+    here = omega arith
 
-    go : (e : Encoded) → r ≡ answer (length values) e → Stored part part′ 0 (opened size c .next - c .next) e → Fit values size (opened size c) e → Put values out out′ 0 at base c r (E.asObject size e)
+    go : (e : Encoded) → r ≡ answer (length values) e → Stored out out′ 0 (opened size c .next - c .next) e → Fit values size (opened size c) e → Put values out out″ 0 0 (c .next) c r (E.asObject size e)
     go (wrote inline outside n u rest) a s f =
-        let begun : c .next + padded size - c .next ≡ padded size = omega arith in
-        let whole : length inline + length (zeros (padded size - size)) ≡ padded size = omega (arith, f .whole, length-zeros (padded size - size), padded-above size) in
-        let sized : c .next - base + size ≡ free + length inline = omega (arith, f .whole) in
+        let fill = zeros (padded size - size) in
+        let begun : c .next + padded size - c .next ≡ 0 + padded size = omega arith in
+        let whole : length inline + length fill ≡ padded size = omega (arith, f .whole, length-zeros (padded size - size), padded-above size) in
+        let sized : size ≡ 0 + length inline = omega (arith, f .whole) in
+        let s′ : out′ ≡ sets (sets out 0 inline) (0 + padded size) outside = rw begun at s in
+        let z′ : out″ ≡ sets out′ (0 + length inline) fill = z ∙ ap (λ (k : ℕ). sets out′ k fill) sized in
         record {
           says = a;
-          stored = z ∙ rw (l inline outside (rw begun at s), sized) (object-stored out free (padded size) inline (zeros (padded size - size)) outside whole);
+          stored = rw here (z′ ∙ ap (λ (l : List ℕ). sets l (0 + length inline) fill) s′ ∙ object-stored out 0 (padded size) inline fill outside whole);
           fit = record {
             whole = refl;
-            claimed = omega (arith, f .claimed, length-append (inline ++ zeros (padded size - size)) outside, length-append inline (zeros (padded size - size)), whole);
+            claimed = omega (arith, f .claimed, length-append (inline ++ fill) outside, length-append inline fill, whole);
             short = f .short;
             counted = f .counted;
             few = f .few;

@@ -1,6 +1,8 @@
+pub mod Parts
 pub mod Claims
 pub mod Levels
 pub mod Openings
+pub mod Objects
 pub mod Boxes
 pub mod Counts
 pub mod Tables

@@ -1,4 +1,4 @@
--- A string: its bytes are put into the object that its record opened, the fill after them, and then the text is judged.
+-- A string: its bytes are put into the object that its record opened, and then the text is judged.
 -- Assumes nothing.
 use mathlib.Core.Path.{_≡_, refl, sym, ap, subst, _∙_}
 use mathlib.Core.Bool.{Bool, true, false, not}
@@ -8,13 +8,12 @@ use native.Mathlib.Omega.{arith}
 use mir.Syntax.{w64}
 use mir.Val.{Fits}
 use lib.Dec.{eqb, leb}
-use lib.ListN.{length, drop, take, length-append, length-drop}
-use lib.Seq.{sets}
+use lib.ListN.{length, drop, take, length-drop}
 use Rattle.rules.specs.declared.Fault.{Fault}
 use Rattle.rules.specs.declared.Place.{Place}
 use Rattle.rules.specs.declared.Place.the-variants.{Row, Byte, Index, Amount}
 use Rattle.rules.specs.Refusals.{fault, notAValue, messageTooLong, tooDeep}
-use Rattle.rules.specs.Bytes.{zeros, padded}
+use Rattle.rules.specs.Bytes.{padded}
 use Rattle.rules.specs.Text.{isUtf8}
 use Rattle.rules.specs.TypeTable.{TypeTable}
 use Rattle.rules.specs.Encode as E
@@ -30,11 +29,10 @@ use Rattle.write_leaves.specs.declared.cursor.Wrote.the-variants as W
 use Rattle.write_records.specs.declared.records.Opening.{Opening}
 use Rattle.write_records.specs.declared.records.Opened.{Opened}
 use Rattle.write_records.specs.declared.records.Opened.the-variants.{Closed, Open, Refused}
-use Rattle.write_leaves.specs.Putting.{answer, Stored, Fit, Put, PutsInLine, Stands, Ask}
-use Rattle.write_records.specs.Opening.{opened, claimedFrom, ObjectPut, Opens}
+use Rattle.write_leaves.specs.Putting.{answer, Put, Stands, Ask}
+use Rattle.write_records.specs.Opening.{opened, claimedFrom, Claimed, Opens}
 use Rattle.write_leaves.specs.InLine.{numbersAs}
-use Rattle.write_records.specs.Contracts.{afterCount, CountedOpens, StringPuts}
-use Rattle.write_records.proofs.Claims.{object-stored, length-zeros}
+use Rattle.write_records.specs.Contracts.{NumbersPut, afterCount, CountedOpens, StringPuts}
 use Rattle.write_records.proofs.Openings.{record-same}
 use Rattle.write_records.proofs.Counts.{counted-stands}
 
@@ -58,69 +56,38 @@ abbrev onOf : Wrote → ℕ
 onOf (W.On d) = 1
 onOf (W.Refused f) = 0
 
--- ---- the object
-
--- An object is written in the output that it is claimed in, and then its fill.
-object-here : {values out mid out′ : List ℕ} {size base : ℕ} {c : Cursor} {r : Wrote} (e : Encoded) → base ≤ c .next
-    → Put values out mid size (c .next - base) base (opened size c) r e
-    → out′ ≡ sets mid (c .next - base + size) (zeros (padded size - size))
-    → Put values out out′ 0 0 base c r (E.asObject size e)
-object-here {values} {out} {mid} {out′} {size} {base} {c} {r} e within p z = go e (p .says) (p .stored) (p .fit)
-  where
-    free : ℕ
-    free = c .next - base
-
-    go : (e : Encoded) → r ≡ answer (length values) e → Stored out mid (c .next - base) (opened size c .next - base) e → Fit values size (opened size c) e → Put values out out′ 0 0 base c r (E.asObject size e)
-    go (wrote inline outside n u rest) a s f =
-        let begun : c .next + padded size - base ≡ c .next - base + padded size = omega arith in
-        let whole : length inline + length (zeros (padded size - size)) ≡ padded size = omega (arith, f .whole, length-zeros (padded size - size), padded-above size) in
-        let sized : c .next - base + size ≡ c .next - base + length inline = omega (arith, f .whole) in
-        let s′ : mid ≡ sets (sets out (c .next - base) inline) (c .next - base + padded size) outside = rw begun at s in
-        record {
-          says = a;
-          stored = z ∙ rw (s′, sized) (object-stored out (c .next - base) (padded size) inline (zeros (padded size - size)) outside whole);
-          fit = record {
-            whole = refl;
-            claimed = omega (arith, f .claimed, length-append (inline ++ zeros (padded size - size)) outside, length-append inline (zeros (padded size - size)), whole);
-            short = f .short;
-            counted = f .counted;
-            few = f .few;
-            taken = f .taken;
-            left = f .left;
-          };
-        }
-    go (cannot number left) a s f = record { says = a; stored = tt; fit = tt }
-
 -- ---- the test
 
-module _ {values out mid : List ℕ} {size at base : ℕ} {c : Cursor} where
-  checked-cannot : {f : Fault} (e : Encoded) → Put values out mid size at base c (W.Refused f) e
-      → Put values out mid size at base c (W.Refused f) (E.checkedGoes isUtf8 (drop (c .index) values) e)
+-- An object whose numbers are tested after it.
+module _ {values out out′ : List ℕ} (size : ℕ) {at base : ℕ} {c : Cursor} where
+  checked-cannot : {f : Fault} (e : Encoded) → Put values out out′ 0 at base c (W.Refused f) (E.asObject size e)
+      → Put values out out′ 0 at base c (W.Refused f) (E.asObject size (E.checkedGoes isUtf8 (drop (c .index) values) e))
   checked-cannot (wrote inline outside n u rest) p = absurd (let z : _≡_ {A = ℕ} 0 1 = ap onOf (p .says) in omega arith)
   checked-cannot (cannot number left) p = p
 
   module _ {d : Cursor} where
-    took-these : (inline outside : List ℕ) (n u : ℕ) (rest : List ℕ) → Put values out mid size at base c (W.On d) (wrote inline outside n u rest)
+    took-these : (inline outside : List ℕ) (n u : ℕ) (rest : List ℕ) → Put values out out′ 0 at base c (W.On d) (E.asObject size (wrote inline outside n u rest))
         → d .index - c .index ≡ length (drop (c .index) values) - length rest
     took-these inline outside n u rest p =
         let i : d .index ≡ length values - length rest = ap indexOf (p .says) in
         omega (arith, i, length-drop (c .index) values)
 
-    checked-holds : (e : Encoded) → Put values out mid size at base c (W.On d) e → isUtf8 (take (d .index - c .index) (drop (c .index) values)) ≡ true
-        → Put values out mid size at base c (W.On d) (E.checkedGoes isUtf8 (drop (c .index) values) e)
+    checked-holds : (e : Encoded) → Put values out out′ 0 at base c (W.On d) (E.asObject size e) → isUtf8 (take (d .index - c .index) (drop (c .index) values)) ≡ true
+        → Put values out out′ 0 at base c (W.On d) (E.asObject size (E.checkedGoes isUtf8 (drop (c .index) values) e))
     checked-holds (wrote inline outside n u rest) p h =
         let k : isUtf8 (take (length (drop (c .index) values) - length rest) (drop (c .index) values)) ≡ true = rw (took-these inline outside n u rest p) at h in
         rw k p
     checked-holds (cannot number left) p h = absurd (let z : _≡_ {A = ℕ} 1 0 = ap onOf (p .says) in omega arith)
 
-    checked-fails : (e : Encoded) → Put values out mid size at base c (W.On d) e → isUtf8 (take (d .index - c .index) (drop (c .index) values)) ≡ false
-        → Put values out mid size at base c (W.Refused (fault notAValue (Index (length values - suc (length (drop (c .index) values)))))) (E.checkedGoes isUtf8 (drop (c .index) values) e)
+    checked-fails : (e : Encoded) → Put values out out′ 0 at base c (W.On d) (E.asObject size e) → isUtf8 (take (d .index - c .index) (drop (c .index) values)) ≡ false
+        → Put values out out′ 0 at base c (W.Refused (fault notAValue (Index (length values - suc (length (drop (c .index) values))))))
+        (E.asObject size (E.checkedGoes isUtf8 (drop (c .index) values) e))
     checked-fails (wrote inline outside n u rest) p h =
         let k : isUtf8 (take (length (drop (c .index) values) - length rest) (drop (c .index) values)) ≡ false = rw (took-these inline outside n u rest p) at h in
         rw k (record { says = refl; stored = tt; fit = tt })
     checked-fails (cannot number left) p h = absurd (let z : _≡_ {A = ℕ} 1 0 = ap onOf (p .says) in omega arith)
 
-    done-within : (e : Encoded) → Put values out mid size at base c (W.On d) e → (c .index ≤ d .index) × (d .index ≤ length values)
+    done-within : (e : Encoded) → Put values out out′ 0 at base c (W.On d) (E.asObject size e) → (c .index ≤ d .index) × (d .index ≤ length values)
     done-within (wrote inline outside n u rest) p =
         let i : d .index ≡ length values - length rest = ap indexOf (p .says) in
         (omega (arith, i, p .fit .taken), omega (arith, i))
@@ -183,29 +150,8 @@ module _ (values out half : List ℕ) (depth at base : ℕ) (c : Cursor) (larges
     stands : (x .start ≡ c .next) × (x .cursor ≡ opened (x .count * 1) (claimedFrom x)) × Stands values (x .cursor)
     stands = counted-stands values out half depth at c 1 largest optional r opens ask is-open
 
-    ends : x .cursor .next ≡ x .start + padded (x .count * 1)
-    ends = ap (λ (k : Cursor). k .next) (stands .1)
-
-    pub string-base : base ≤ x .start
-    string-base = omega (arith, stands .0, ask .inside)
-
-    pub string-stands : Stands values (x .cursor)
-    string-stands = stands .2
-
-    pub string-numbers : x .start - base + x .count * 1 ≤ 65536
-    string-numbers = omega (arith, ends, padded-above (x .count * 1), stands .2 .free)
-
-    pub string-fits : Fits w64 (x .start - base + x .count)
-    string-fits = omega (arith, ends, padded-above (x .count * 1), stands .2 .free)
-
-    pub string-start : x .start ≤ x .cursor .next
-    string-start = omega (arith, ends)
-
-    pub string-fill : x .count ≤ x .cursor .next - x .start
-    string-fill = omega (arith, ends, padded-above (x .count * 1))
-
-    pub string-filled : x .start - base + x .count + (x .cursor .next - x .start - x .count) < 4294967296
-    string-filled = omega (arith, ends, padded-above (x .count * 1), stands .2 .free)
+    pub string-claimed : Claimed values (x .count * 1) base x
+    string-claimed = record { within = omega (arith, stands .0, ask .inside); advanced = stands .1; stands = stands .2 }
 
     pub string-index-fits : length values < 1152921504606846976 → Fits w64 (x .cursor .index * 8)
     string-index-fits h = omega (arith, stands .2 .left)
@@ -218,54 +164,32 @@ module _ (values out half : List ℕ) (depth at base : ℕ) (c : Cursor) (larges
         let m : mark ≡ length values - length (drop (c .index) values) = marks (length values) (c .next) (c .handles) mark (R.levels someTable depth) (writeCount (eqb optional 1) largest) (drop (c .index) values) (p .says) in
         omega (arith, m, length-drop (c .index) values, ask .left)
 
-    module _ {mid : List ℕ} {s : Wrote} (puts : PutsInLine values half mid (x .count * 1) (x .start - base) (x .cursor) s (numbersAs 1 (x .count))) where
+    module _ {last : List ℕ} {s : Wrote} (put : NumbersPut values half last base 1 x s) where
       abbrev run : Encoded
       run = E.elements (λ i. encodeWord 1) 0 (x .count) (drop (x .cursor .index) values) (x .start + padded (x .count * 1)) (x .cursor .handles)
 
-      ran : Put values half mid (x .count * 1) (x .start - base) base (opened (x .count * 1) (claimedFrom x)) s run
+      ran : {w : Wrote} → s ≡ w → Put values half last 0 0 base (claimedFrom x) w (E.asObject (x .count * 1) run)
       unfolding numbersAs E.elements
-      ran = subst (λ (k : Cursor). Put values half mid (x .count * 1) (x .start - base) base k s (E.elements (λ i. encodeWord 1) 0 (x .count) (drop (k .index) values) (k .next) (k .handles))) (stands .1) (puts base)
+      ran e = rw e at put
 
-      close : {last : List ℕ} {w : Wrote} → Put values half mid (x .count * 1) (x .start - base) base (opened (x .count * 1) (claimedFrom x)) w (E.checkedGoes isUtf8 (drop (x .cursor .index) values) run)
-          → last ≡ sets mid (x .start - base + x .count * 1) (zeros (padded (x .count * 1) - x .count * 1))
+      close : {w : Wrote} → Put values half last 0 0 base (claimedFrom x) w (E.asObject (x .count * 1) (E.checkedGoes isUtf8 (drop (x .cursor .index) values) run))
           → StringPuts values out last depth at c base largest optional w
       unfolding E.checked E.elements
-      close {last} {w} p z t = let o = rw is-open at (string-opens t) in o .3 last w (object-here (E.checkedGoes isUtf8 (drop (x .cursor .index) values) run) string-base p z)
+      close {w} p t = let o = rw is-open at (string-opens t) in o .3 last w p
 
-      halted : {last : List ℕ} {f : Fault} → s ≡ W.Refused f → StringPuts values out last depth at c base largest optional (W.Refused f)
-      unfolding E.checked E.elements
-      halted {last} {f} e t =
-          let p : Put values half mid (x .count * 1) (x .start - base) base (opened (x .count * 1) (claimedFrom x)) (W.Refused f) run = rw e at ran in
-          let o = rw is-open at (string-opens t) in
-          o .3 last (W.Refused f) (refused-object (E.checkedGoes isUtf8 (drop (x .cursor .index) values) run) (checked-cannot run p .says))
-        where
-          refused-object : (e : Encoded) → W.Refused f ≡ answer (length values) e → Put values half last 0 0 base (claimedFrom x) (W.Refused f) (E.asObject (x .count * 1) e)
-          refused-object (wrote inline outside n u rest) a = absurd (let z : _≡_ {A = ℕ} 0 1 = ap onOf a in omega arith)
-          refused-object (cannot number left) a = record { says = a; stored = tt; fit = tt }
-
-      pub string-halted : {f : Fault} → s ≡ W.Refused f → StringPuts values out mid depth at c base largest optional (W.Refused f)
-      string-halted e = halted e
+      pub string-halted : {f : Fault} → s ≡ W.Refused f → StringPuts values out last depth at c base largest optional (W.Refused f)
+      string-halted e = close (checked-cannot (x .count * 1) run (ran e))
 
       module _ {d : Cursor} (on : s ≡ W.On d) where
-        ran-on : Put values half mid (x .count * 1) (x .start - base) base (opened (x .count * 1) (claimedFrom x)) (W.On d) run
-        ran-on = rw on at ran
-
         pub string-from : x .cursor .index ≤ d .index
-        string-from = done-within run ran-on .0
+        string-from = done-within (x .count * 1) run (ran on) .0
 
         pub string-to : d .index ≤ length values
-        string-to = done-within run ran-on .1
+        string-to = done-within (x .count * 1) run (ran on) .1
 
-        module _ {last : List ℕ} {b : Bool} (z : last ≡ sets mid (x .start - base + x .count) (zeros (x .cursor .next - x .start - x .count)))
-            (test : b ≡ isUtf8 (take (d .index - x .cursor .index) (drop (x .cursor .index) values))) where
-          filled : last ≡ sets mid (x .start - base + x .count * 1) (zeros (padded (x .count * 1) - x .count * 1))
-          filled =
-              let p : x .start - base + x .count ≡ x .start - base + x .count * 1 = omega arith in
-              let q : x .cursor .next - x .start - x .count ≡ padded (x .count * 1) - x .count * 1 = omega (arith, ends) in
-              rw (← p, ← q) z
-
+        module _ {b : Bool} (test : b ≡ isUtf8 (take (d .index - x .cursor .index) (drop (x .cursor .index) values))) where
           pub string-put : b ≡ true → StringPuts values out last depth at c base largest optional (W.On d)
-          string-put h = close (checked-holds run ran-on (sym test ∙ h)) filled
+          string-put h = close (checked-holds (x .count * 1) run (ran on) (sym test ∙ h))
 
           pub string-unfit : {w : Wrote} → b ≡ false → w ≡ W.Refused (fault notAValue (Index (c .index))) → StringPuts values out last depth at c base largest optional w
-          string-unfit {w} h e = rw e (subst (λ (k : ℕ). StringPuts values out last depth at c base largest optional (W.Refused (fault notAValue (Index k)))) judged (close (checked-fails run ran-on (sym test ∙ h)) filled))
+          string-unfit {w} h e = rw e (subst (λ (k : ℕ). StringPuts values out last depth at c base largest optional (W.Refused (fault notAValue (Index k)))) judged (close (checked-fails (x .count * 1) run (ran on) (sym test ∙ h))))

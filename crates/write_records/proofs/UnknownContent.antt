@@ -2,31 +2,33 @@
 -- Assumes nothing.
 use mathlib.Core.Path.{_≡_, refl, sym, ap, _∙_}
 use mathlib.Core.Bool.{Bool, true, false}
-use mathlib.Core.List.{List, [], _∷_, _++_, append-nil}
+use mathlib.Core.List.{List, []}
 use Prim.Native.Nat.{ℕ, zero, suc, _+_, _-_, _*_, _/_, _%_, _≤_, _<_}
 use native.Mathlib.Numerals.{add-one}
 use native.Mathlib.Omega.{arith}
 use borrow.Author.Tests.{lt-ltb, le-ltb, le-leb, lt-leb, ne-eqb}
 use lib.Dec.{eqb, leb, ltb}
-use lib.ListN.{length, drop, getD, length-append, length-drop, drop-of-length-le}
+use lib.ListN.{length, drop, getD, length-drop, drop-of-length-le}
 use lib.Seq.{sets, drop-cons}
 use Rattle.rules.specs.declared.Fault.{Fault}
 use Rattle.rules.specs.declared.Place.the-variants.{Index}
 use Rattle.rules.specs.Refusals.{if_then_else_, fault, messageTooLong, tooDeep, notAValue}
 use Rattle.rules.specs.TypeTable.{TypeTable}
 use Rattle.rules.specs.Writer as R
-use Rattle.rules.specs.Bytes.{bytesOf, zeros, padded}
+use Rattle.rules.specs.Bytes.{bytesOf, padded}
 use Rattle.rules.specs.Encode as E
 use Rattle.rules.specs.Encode.{Encoded, wrote, cannot, Encoder}
 use Rattle.rules.specs.Envelope.{envelopeBytes, handleNumberFits, wordFits, encodeWord, writeWords, byteNumberFits, writeUnknownInLine, writeUnknownOutOfLine, writeUnknown}
-use Rattle.words.proofs.Stores.{sets-append}
 use Rattle.write_leaves.specs.declared.cursor.Cursor.{Cursor}
 use Rattle.write_leaves.specs.declared.cursor.Wrote.{Wrote}
 use Rattle.write_leaves.specs.declared.cursor.Wrote.the-variants.{On, Refused}
 use Rattle.write_leaves.specs.Putting.{answer, Stored, Fit, Put, Puts, PutsInLine, tookOne, Stands, HandlesTaken, Ask}
 use Rattle.write_leaves.specs.InLine.{numbersAs}
-use Rattle.write_records.specs.Contracts.{UnknownPuts}
-use Rattle.write_leaves.proofs.InLine.{put-in-line, put-cannot, took-stands, handles-taken, handles-over}
+use Rattle.write_records.specs.declared.records.Opening.{Opening}
+use Rattle.write_records.specs.Opening.{claimedFrom, Claimed}
+use Rattle.write_records.specs.Contracts.{NumbersPut, UnknownPuts}
+use Rattle.write_leaves.proofs.InLine.{put-in-line, put-cannot, after-put, took-stands, handles-taken, handles-over}
+use Rattle.write_leaves.proofs.Results.{after-none}
 use Rattle.write_leaves.proofs.Together.{put-halt}
 use Rattle.write_records.proofs.Openings.{padded-is}
 
@@ -42,26 +44,29 @@ module _ (holds : ℕ → Bool) (continue : ℕ → Encoder) (values : List ℕ)
   unfolding E.numberThen
   number-at h = rw (add-one, drop-cons values i 0 h)
 
--- What was put from the cursor after one more number was put from the cursor.
-pub put-later : {values out out′ : List ℕ} {size at base : ℕ} {c : Cursor} {r : Wrote} {e : Encoded}
-    → Put values out out′ size at base (tookOne c) r e → Put values out out′ size at base c r e
-put-later {values} {out} {out′} {size} {at} {base} {c} {r} {e} p = go e (p .says) (p .stored) (p .fit)
+-- What was put from a cursor with the same free byte, further on in the value list, was put from the cursor.
+put-from : {values out out′ : List ℕ} {size at base : ℕ} {c : Cursor} (d : Cursor) {r : Wrote} {e : Encoded} → d .next ≡ c .next → c .handles ≤ d .handles → c .index ≤ d .index
+    → Put values out out′ size at base d r e → Put values out out′ size at base c r e
+put-from {values} {out} {out′} {size} {at} {base} {c} d {r} {e} same u i p = go e (p .says) (p .stored) (p .fit)
   where
-    go : (e : Encoded) → r ≡ answer (length values) e → Stored out out′ at (c .next - base) e → Fit values size (tookOne c) e → Put values out out′ size at base c r e
-    go (wrote inline outside n u rest) a s f = record {
+    go : (e : Encoded) → r ≡ answer (length values) e → Stored out out′ at (d .next - base) e → Fit values size d e → Put values out out′ size at base c r e
+    go (wrote inline outside n used rest) a s f = record {
       says = a;
-      stored = s;
+      stored = rw same at s;
       fit = record {
         whole = f .whole;
-        claimed = f .claimed;
+        claimed = omega (arith, f .claimed);
         short = f .short;
-        counted = f .counted;
+        counted = omega (arith, f .counted);
         few = f .few;
         taken = omega (arith, f .taken);
         left = f .left;
       };
     }
     go (cannot number left) a s f = record { says = a; stored = tt; fit = tt }
+
+pub put-later : {values out out′ : List ℕ} {size at base : ℕ} {c : Cursor} {r : Wrote} {e : Encoded} → Put values out out′ size at base (tookOne c) r e → Put values out out′ size at base c r e
+put-later {c = c} p = put-from (tookOne c) refl (omega arith) (omega arith) p
 
 -- ---- handles
 
@@ -108,10 +113,6 @@ handlesNext handles = E.sequence (E.takeHandles handles) (wordNext handles)
 envelope-whole : (bytes handles flags : ℕ) → length (envelopeBytes bytes handles flags) ≡ 8
 unfolding bytesOf
 envelope-whole bytes handles flags = refl
-
-after-none : (e : Encoded) → E.after [] [] e ≡ e
-after-none (wrote inline outside next used rest) = refl
-after-none (cannot number left) = refl
 
 module _ (values out : List ℕ) (at : ℕ) (c : Cursor) (s : Stands values c) where
   pub in-line-ended : {r : Wrote} → length values ≤ c .index → r ≡ Refused (fault notAValue (Index (c .index))) → PutsInLine values out out 8 at c r writeUnknownInLine
@@ -174,41 +175,21 @@ module _ (values out : List ℕ) (at : ℕ) (c : Cursor) (s : Stands values c) w
 
 -- ---- unknown content out of line
 
-no-fill : (count : ℕ) → count ≡ 0 → zeros count ≡ []
-unfolding zeros
-no-fill count e = rw e
-
--- The envelope in line, and the words as its object, which needs no fill.
-words-put : {values out out₁ out′ : List ℕ} {size at base : ℕ} {c g : Cursor} {r : Wrote} {e : Encoded} (bytes : ℕ) (envelope : List ℕ) → length envelope ≡ 8
-    → size ≡ bytes → padded bytes ≡ bytes → base ≤ c .next → out₁ ≡ sets out at envelope → g .next ≡ c .next + bytes → c .handles ≤ g .handles → c .index ≤ g .index
-    → Put values out₁ out′ size (c .next - base) base g r e → Put values out out′ 8 at base c r (E.after envelope [] (E.asObject bytes e))
-words-put {values} {out} {out₁} {out′} {size} {at} {base} {c} {g} {r} {e} bytes envelope eight sized full within stored n u i p = go e (p .says) (p .stored) (p .fit)
-  where
-    none : zeros (padded bytes - bytes) ≡ []
-    none = no-fill (padded bytes - bytes) (omega (arith, full))
-
-    go : (e : Encoded) → r ≡ answer (length values) e → Stored out₁ out′ (c .next - base) (g .next - base) e → Fit values size g e
-        → Put values out out′ 8 at base c r (E.after envelope [] (E.asObject bytes e))
-    go (wrote inline outside n′ u′ rest) a s f =
-        let seam : g .next - base ≡ c .next - base + length inline = omega (arith, f .whole) in
-        record {
-          says = a;
-          stored = s ∙ rw (seam, stored, append-nil envelope, none, append-nil inline) (sets-append (sets out at envelope) (c .next - base) inline outside);
-          fit = record {
-            whole = rw (append-nil envelope) eight;
-            claimed = rw (none, append-nil inline) (omega (arith, f .whole, f .claimed, length-append inline outside));
-            short = f .short;
-            counted = omega (arith, f .counted);
-            few = f .few;
-            taken = omega (arith, f .taken);
-            left = f .left;
-          };
-        }
-    go (cannot number left) a s f = record { says = a; stored = tt; fit = tt }
-
 module _ (values : List ℕ) (base at : ℕ) (c : Cursor) (ask : Ask values 8 at base c) {d : Cursor} (e : d ≡ tookOne c) where
   pub ask-some : 0 < d .index
   ask-some = rw e (omega arith)
+
+-- The words as an object that is open.
+abbrev words-from : (c : Cursor) (bytes handles index : ℕ) → Opening
+words-from c bytes handles index = record { count = bytes / 8; start = c .next; cursor = record { next = c .next + bytes; handles = handles; index = index } }
+
+pub words-claimed : (values : List ℕ) (base bytes at : ℕ) (c : Cursor) (handles : ℕ) → Ask values 8 at base c → bytes % 8 ≡ 0 → bytes ≤ 65536 - c .next → c .index < length values → handles ≤ 64
+    → Claimed values (bytes / 8 * 8) base (words-from c bytes handles (c .index + 1))
+words-claimed values base bytes at c handles ask eights fits h few = record {
+  within = omega (arith, ask .inside);
+  advanced = let full : bytes ≡ padded (bytes / 8 * 8) = omega (arith, padded-is (bytes / 8 * 8), eights) in ap (λ (n : ℕ). record { next = c .next + n; handles = handles; index = c .index + 1 }) full;
+  stands = record { free = omega (arith, ask .free, fits); held = few; left = omega (arith, h) };
+}
 
 module _ (values out : List ℕ) (base bytes at : ℕ) (c : Cursor) (ask : Ask values 8 at base c) where
   ask-stands : Stands values c
@@ -260,23 +241,20 @@ module _ (values out : List ℕ) (base bytes at : ℕ) (c : Cursor) (ask : Ask v
             out-held : Held values v (tookOne c) f
             out-held = let q : HandlesTaken v (tookOne c) (On f) = rw (e, x) at p in handles-held v (tookOne c) f (took-stands ask-stands h) q
 
-            abbrev words-at : Cursor
-            words-at = record { next = c .next + bytes; handles = f .handles; index = f .index }
-
             out-words : writeUnknownOutOfLine bytes (drop (c .index) values) (c .next) (c .handles)
-                ≡ E.after (envelopeBytes bytes v 0) [] (E.asObject bytes (numbersAs 8 (bytes / 8) (drop (f .index) values) (c .next + bytes) (f .handles)))
+                ≡ E.after (envelopeBytes bytes v 0) [] (E.asObject bytes (numbersAs 8 (bytes / 8) (drop (f .index) values) (c .next + padded bytes) (f .handles)))
             unfolding writeWords numbersAs
-            out-words = out-goes ∙ rw (out-held .counted, out-held .moved)
-                (after-none (writeWords bytes v (drop (c .index + 1) values) (c .next) (c .handles + v))
-                ∙ ap (λ (n : ℕ). E.after (envelopeBytes bytes v 0) [] (E.asObject bytes (E.elements (λ i. encodeWord 8) 0 (bytes / 8) (drop (c .index + 1) values) (c .next + n) (c .handles + v)))) full)
+            out-words = out-goes ∙ rw (out-held .counted, out-held .moved) (after-none (writeWords bytes v (drop (c .index + 1) values) (c .next) (c .handles + v)))
 
-            pub out-put : {out₁ out′ : List ℕ} {r : Wrote} → out₁ ≡ sets out at (envelopeBytes bytes v 0)
-                → PutsInLine values out₁ out′ (bytes / 8 * 8) (c .next - base) words-at r (numbersAs 8 (bytes / 8)) → Puts values out out′ 8 at base c r (writeUnknownOutOfLine bytes)
+            pub out-put : {out₁ out′ : List ℕ} {r : Wrote} → out₁ ≡ sets out at (envelopeBytes bytes v 0) → NumbersPut values out₁ out′ base 8 (words-from c bytes (f .handles) (f .index)) r
+                → Puts values out out′ 8 at base c r (writeUnknownOutOfLine bytes)
             out-put stored q =
                 let u : f .handles ≡ c .handles + v = ap (λ (x : Cursor). x .handles) (out-held .moved) in
                 let i : f .index ≡ c .index + 1 = ap (λ (x : Cursor). x .index) (out-held .moved) in
+                let eight : bytes / 8 * 8 ≡ bytes = omega (arith, eights) in
                 rw out-words
-                (words-put {g = words-at} bytes (envelopeBytes bytes v 0) (envelope-whole bytes v 0) (omega (arith, eights)) full (omega (arith, ask .inside)) stored refl (omega arith) (omega arith) (q base))
+                (after-put (envelopeBytes bytes v 0) (envelope-whole bytes v 0) stored
+                (put-from (claimedFrom (words-from c bytes (f .handles) (f .index))) refl (omega arith) (omega arith) (rw eight at q)))
 
         module _ (k : v ≤ 65535) where
           pub plain-over : {r : Wrote} → 64 < c .handles + v → r ≡ Refused (fault 4 (Index (c .index))) → Puts values out out 8 at base c r (writeUnknownOutOfLine bytes)
@@ -285,8 +263,7 @@ module _ (values out : List ℕ) (base bytes at : ℕ) (c : Cursor) (ask : Ask v
               rw e (out-handles-over {d = tookOne c} k refl (handles-over v (tookOne c) l (omega arith) (ap (λ (n : ℕ). Refused (fault 4 (Index n))) i)) refl)
 
           pub plain-put : {out₁ out′ : List ℕ} {r : Wrote} → c .handles + v ≤ 64 → out₁ ≡ sets out at (envelopeBytes bytes v 0)
-              → PutsInLine values out₁ out′ (bytes / 8 * 8) (c .next - base) (record { next = c .next + bytes; handles = c .handles + v; index = c .index + 1 }) r (numbersAs 8 (bytes / 8))
-              → Puts values out out′ 8 at base c r (writeUnknownOutOfLine bytes)
+              → NumbersPut values out₁ out′ base 8 (words-from c bytes (c .handles + v) (c .index + 1)) r → Puts values out out′ 8 at base c r (writeUnknownOutOfLine bytes)
           plain-put few stored q = out-put {d = tookOne c} k refl {f = holding v (tookOne c)} (handles-taken v (tookOne c) few) refl stored q
 
 -- ---- unknown content

@@ -28,7 +28,8 @@ use Rattle.write_records.specs.declared.records.Opened.the-variants.{Clo
 use Rattle.write_records.specs.declared.envelopes.Member.{Member}
 use Rattle.write_records.specs.declared.envelopes.Member.the-variants.{None, Some, Bad}
 use Rattle.write_leaves.specs.Putting.{Put, Puts, tookOne, Stands, Ask}
-use Rattle.write_records.specs.Opening.{Opens}
+use Rattle.write_leaves.specs.InLine.{numbersAs}
+use Rattle.write_records.specs.Opening.{claimedFrom, ObjectPut, Opens}
 
 -- An object that is open has so many elements, and a level of depth was left for it.
 abbrev pub HasCount : (count : ℕ) → Opened → Type 0
@@ -60,6 +61,10 @@ DeeperOpens depth size c r =
     → Opens values out out 0 at base c
     (E.oneDeeper (R.levels t depth) (λ rows b. E.claim size (fields rows b)) (drop (c .index) values) (c .next) (c .handles)) (λ x. size)
     (λ x. fields (R.encodeRow t (R.levels t (depth - 1))) (R.levels t (depth - 1))) r
+
+-- An object of an opening's count of numbers of a width, from its claim on.
+abbrev pub NumbersPut : (values out out′ : List ℕ) (base width : ℕ) (x : Opening) → Wrote → Type 0
+NumbersPut values out out′ base width x r = ObjectPut values out out′ (x .count * width) base (claimedFrom x) r (numbersAs width (x .count))
 
 -- What a count leads to, whatever is written in the object, as `fields` makes it of the count and of what lies deeper.
 abbrev pub afterCount : E.Deeper → (size : ℕ) (fields : (count : ℕ) → (ℕ → Encoder) → E.Deeper → Encoder) (value : ℕ) → Encoder

@@ -27,6 +27,12 @@ opened size c = record { next = c .next + padded size; handles = c .handles; ind
 abbrev pub claimedFrom : Opening → Cursor
 claimedFrom x = record { next = x .start; handles = x .cursor .handles; index = x .cursor .index }
 
+-- An object of `size` bytes was claimed, in an output that starts before it.
+pub record Claimed (values : List ℕ) (size base : ℕ) (x : Opening) : Type 0 where
+  pub within : base ≤ x .start
+  pub advanced : x .cursor ≡ opened size (claimedFrom x)
+  pub stands : Stands values (x .cursor)
+
 -- An object of `size` bytes is written from its claim on: its value, its fill, and the objects within. It takes nothing in line.
 abbrev pub ObjectPut : (values out out′ : List ℕ) (size base : ℕ) (c : Cursor) (r : Wrote) → Encoder → Type 0
 ObjectPut values out out′ size base c r fields =

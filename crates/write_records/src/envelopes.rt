@@ -7,6 +7,8 @@ ghost use Rattle.rules.specs.Envelope.{envelopeBytes, writeUnknownInLine, write
 ghost use Rattle.ordinals.specs.Ordinals.{ordinalIs, Rising};
 ghost use Rattle.write_leaves.specs.Putting.{Stands, Ask, Puts, PutsInLine};
 ghost use Rattle.write_records.specs.Contracts.{UnionOpens, MemberIs, UnknownPuts, sealedOut};
+use crate::records::Opening;
+use crate::records::object_of_numbers;
 use ordinals::Ordinal;
 use rules::Fault;
 use write_leaves::cursor::Cursor;
@@ -16,7 +18,6 @@ use write_leaves::cursor::put_zeros;
 use write_leaves::cursor::refused;
 use write_leaves::cursor::took;
 use write_leaves::cursor::with_handles;
-use write_leaves::scalars::numbers;
 
 // What a union's number says: no member, one whose envelope follows, or a refusal.
 pub enum Member {
@@ -170,7 +171,12 @@ fn unknown_out_of_line(
         handles: used,
         index: c.index + 1,
     };
-    numbers(values, out, 8, whole / 8, start - base, after)
+    let content = Opening {
+        count: whole / 8,
+        start,
+        cursor: after,
+    };
+    object_of_numbers(values, out, base, 8, content)
 }
 
 // After a known payload, its envelope is completed: in line, the fill and the last four bytes; out of line, all of it.

@@ -1,8 +1,15 @@
-// Records that lead out of line: the number is judged (26), the record is put, and the object is claimed (5, 3).
-ghost use Prim.Native.Nat.{_+_, _*_, _≤_, _<_};
+// Records that lead out of line: the number is judged (26), the record is put, and the object is claimed (5, 3). Objects of
+// numbers alone are written here too.
+ghost use mathlib.Core.Bool.{true};
+ghost use mathlib.Core.Path.{_≡_};
+ghost use Prim.Native.Nat.{_+_, _-_, _*_, _≤_, _<_, min};
 ghost use lib.ListN.{length};
+ghost use lib.Seq.{sets};
+ghost use Rattle.rules.specs.Bytes.{zeros, padded};
+ghost use Rattle.layout.specs.Ready.{widthAllowed};
 ghost use Rattle.write_leaves.specs.Putting.{Stands, Ask};
-ghost use Rattle.write_records.specs.Contracts.{HasCount, NotClosed, Reaches, ClaimOpens, DeeperOpens, CountedOpens, StringPuts, BoxOpens, TableOpens};
+ghost use Rattle.write_records.specs.Opening.{Claimed};
+ghost use Rattle.write_records.specs.Contracts.{HasCount, NotClosed, Reaches, ClaimOpens, DeeperOpens, NumbersPut, CountedOpens, StringPuts, BoxOpens, TableOpens};
 use rules::Fault;
 use write_leaves::cursor::Cursor;
 use write_leaves::cursor::Wrote;
@@ -54,6 +61,42 @@ pub fn claim(count: usize, size: usize, c: Cursor) -> Opened
             index: c.index,
         },
     })
+}
+
+// Where the rest of the output from a byte of the message on starts: at the output's end, where it ends before that byte.
+pub fn rest_from(base: usize, start: usize, length: usize) -> usize
+    requires { ⌜ base ≤ start ⌝ }
+    ensures { λ r. ⌜ r ≡ min (start - base) length ⌝ }
+{
+    let offset = start - base;
+    if offset < length { offset } else { length }
+}
+
+// The fill up to eight after an object of so many bytes, which stands at the output's start.
+pub fn fill_up(out: &mut [u8], size: usize)
+    requires { ⌜ size ≤ 65536 ⌝ }
+    ensures { λ _. ⌜ now (out .exit) ≡ sets (now (out .entry)) size (zeros (padded size - size)) ⌝ }
+{
+    put_zeros(out, size, (8 - size % 8) % 8);
+}
+
+// An object of numbers that is claimed, a string's bytes or the words of unknown content, and the fill after them: written into
+// the rest of the output from the object's own offset on.
+pub fn object_of_numbers(
+    values: &[u64],
+    out: &mut [u8],
+    base: usize,
+    width: u32,
+    x: Opening,
+) -> Wrote
+    requires { ⌜ (widthAllowed width ≡ true) × Claimed (now values) (x .count * width) base x ⌝ }
+    ensures { λ r. ⌜ NumbersPut (now (values .entry)) (now (out .entry)) (now (out .exit)) base width x r ⌝ }
+{
+    let from = rest_from(base, x.start, out.len());
+    let rest = &mut out[from..];
+    let wrote = numbers(values, rest, width, x.count, 0, x.cursor);
+    fill_up(rest, x.count * width as usize);
+    wrote
 }
 
 // A vector's or a string's record.
@@ -111,14 +154,9 @@ pub fn string(
         Opened::Refused(f) => Wrote::Refused(f),
         Opened::Open(x) => {
             let first = x.cursor.index;
-            match numbers(values, out, 1, x.count, x.start - base, x.cursor) {
+            match object_of_numbers(values, out, base, 1, x) {
                 Wrote::Refused(f) => Wrote::Refused(f),
                 Wrote::On(d) => {
-                    put_zeros(
-                        out,
-                        x.start - base + x.count,
-                        x.cursor.next - x.start - x.count,
-                    );
                     let end = d.index;
                     if !text::are_utf8(&values[first..end]) {
                         return refused(26, judged);

@@ -11,7 +11,7 @@ use Rattle.rules.specs.declared.Fault.{Fault}
 use Rattle.rules.specs.declared.Place.the-variants.{Index}
 use Rattle.rules.specs.Refusals.{fault, tooDeep}
 use Rattle.rules.specs.Bytes.{bytesOf, zeros}
-use Rattle.rules.specs.TypeTable.{TypeTable, rowCount, known}
+use Rattle.rules.specs.TypeTable.{TypeTable, known}
 use Rattle.rules.specs.Sizes.{sizeOf}
 use Rattle.rules.specs.Encode as E
 use Rattle.rules.specs.Encode.{Encoded, wrote, cannot, Encoder}
@@ -21,7 +21,7 @@ use Rattle.ordinals.specs.declared.Ordinal.{Ordinal}
 use Rattle.ordinals.specs.declared.Ordinal.the-variants.{Known, Unknown}
 use Rattle.ordinals.specs.Ordinals.{OrdinalFits}
 use Rattle.layout.specs.Ready.{Ready}
-use Rattle.layout.proofs.Readiness.{row-in-use, row-size, size-small, ready-at}
+use Rattle.layout.proofs.Readiness.{row-few, row-size, size-small, ready-at}
 use Rattle.words.proofs.Stores.{sets-append, sets-comm, length-bytesOf}
 use Rattle.write_leaves.specs.declared.cursor.Cursor.{Cursor}
 use Rattle.write_leaves.specs.declared.cursor.Wrote.{Wrote}
@@ -30,9 +30,9 @@ use Rattle.write_records.specs.declared.records.Opening.{Opening}
 use Rattle.write_records.specs.declared.records.Opened.{Opened}
 use Rattle.write_records.specs.declared.records.Opened.the-variants.{Closed, Open}
 use Rattle.write_leaves.specs.Putting.{answer, Stored, Fits, Fit, Put, Puts, Stands, Ask}
-use Rattle.write_records.specs.Opening.{Opens}
+use Rattle.write_records.specs.Opening.{Claimed, Opens}
 use Rattle.write_records.specs.Contracts.{NotClosed, UnknownPuts, DeeperOpens, sealedOut}
-use Rattle.write_walk.specs.Walking.{Claimed, writeRow, ValuePut, SingleOf, ContentPut}
+use Rattle.write_walk.specs.Walking.{PayloadReady, writeRow, ValuePut, SingleOf, ContentPut}
 use Rattle.write_leaves.proofs.InLine.{put-in-line}
 use Rattle.write_leaves.proofs.Together.{put-then, put-halt}
 use Rattle.write_leaves.proofs.Leading.{wrote-stands}
@@ -145,27 +145,28 @@ content-unknown t values out out′ base depth at c what r e p = rw e (p t)
 
 -- ---- a known payload
 
-module _ {t : TypeTable} {sizes alignments : List ℕ} {depth row payload : ℕ} (what : Ordinal) (ready : Ready t sizes alignments depth row)
-    (fits : OrdinalFits t what) (is : what ≡ Known payload) where
-  in-use : payload < rowCount t
-  in-use = rw is at fits
+pub content-ready : {t : TypeTable} {sizes alignments : List ℕ} {depth row : ℕ} (what : Ordinal) → Ready t sizes alignments depth row → OrdinalFits t what → PayloadReady t sizes alignments depth what
+content-ready {depth = depth} what ready fits = record { row-ready = λ payload is. ready-at ready depth payload (omega arith) (rw is at fits) }
+
+module _ {t : TypeTable} {sizes alignments : List ℕ} {depth payload : ℕ} {what : Ordinal} (ready : PayloadReady t sizes alignments depth what) (is : what ≡ Known payload) where
+  known-ready : Ready t sizes alignments depth payload
+  known-ready = ready .row-ready payload is
 
   pub payload-few : payload < 256
-  payload-few = row-in-use ready payload in-use
+  payload-few = row-few known-ready
 
   pub payload-ready : Ready t sizes alignments (depth - 1) payload
-  payload-ready = ready-at ready (depth - 1) payload (omega arith) in-use
+  payload-ready = ready-at known-ready (depth - 1) payload (omega arith) (known-ready .in-use)
 
   module _ {size : ℕ} (kept : size ≡ getD sizes payload 0) where
     pub payload-small : size ≤ 65528
-    payload-small = size-small ready payload in-use kept
+    payload-small = size-small known-ready payload (known-ready .in-use) kept
 
     pub payload-size : sizeOf t payload ≡ size
-    payload-size = row-size ready payload in-use kept
+    payload-size = row-size known-ready payload (known-ready .in-use) kept
 
-module _ (t : TypeTable) (values out : List ℕ) (base depth row at : ℕ) (c : Cursor) (what : Ordinal) {sizes alignments : List ℕ} {payload size : ℕ}
-    (ready : Ready t sizes alignments depth row) (fits : OrdinalFits t what) (is : what ≡ Known payload) (kept : size ≡ getD sizes payload 0)
-    (ask : Ask values 8 at base c) where
+module _ (t : TypeTable) (values out : List ℕ) (base depth at : ℕ) (c : Cursor) (what : Ordinal) {sizes alignments : List ℕ} {payload size : ℕ}
+    (ready : PayloadReady t sizes alignments depth what) (is : what ≡ Known payload) (kept : size ≡ getD sizes payload 0) (ask : Ask values 8 at base c) where
   -- ---- in line
 
   module _ (small : size ≤ 4) where
@@ -173,7 +174,7 @@ module _ (t : TypeTable) (values out : List ℕ) (base depth row at : ℕ) (c : 
         ≡ writeFlags inLine (E.sequence (E.oneDeeper (R.levels t depth) (λ F b. F payload)) (E.fill (4 - size)))
     unfolding writeContentOfEightBytes
     in-line =
-        let sized = payload-size what ready fits is kept in
+        let sized = payload-size ready is kept in
         let fits-in = le-leb (sizeOf t payload) 4 (omega (arith, sized, small)) in
         rw fits-in (rw sized)
 
@@ -184,7 +185,7 @@ module _ (t : TypeTable) (values out : List ℕ) (base depth row at : ℕ) (c : 
 
     module _ (down : depth ≡ 0 → ⊥) where
       pub small-asks : Ask values (sizeOf t payload) at base c
-      small-asks = record { inside = omega (arith, ask .inside, payload-size what ready fits is kept); free = ask .free; held = ask .held; left = ask .left }
+      small-asks = record { inside = omega (arith, ask .inside, payload-size ready is kept); free = ask .free; held = ask .held; left = ask .left }
 
       module _ {out′ : List ℕ} {w : Wrote} (p : ValuePut t values out out′ base (depth - 1) at c payload w) where
         pub small-refused : {f : Fault} → w ≡ Refused f → ContentPut t values out out′ base depth at c what (Refused f)
@@ -196,7 +197,7 @@ module _ (t : TypeTable) (values out : List ℕ) (base depth row at : ℕ) (c : 
             → ContentPut t values out out″ base depth at c what (On d)
         unfolding writeFlags E.sequence E.inlineBytes
         small-sealed {d} {handles} {out″} z h s =
-            let sized = payload-size what ready fits is kept in
+            let sized = payload-size ready is kept in
             let put : Puts values out out′ size at base c (On d) (writeRow t (depth - 1) payload) = rw (z, sized) at p in
             let rises = put-rises put refl in
             let stood : Stands values d = wrote-stands put .0 in
@@ -215,7 +216,7 @@ module _ (t : TypeTable) (values out : List ℕ) (base depth row at : ℕ) (c : 
         ≡ writeFlags outOfLine (writeByteNumber (E.oneDeeper (R.levels t depth) (λ F b. E.claim size (F payload))))
     unfolding writeContentOfEightBytes
     out-of-line =
-        let sized = payload-size what ready fits is kept in
+        let sized = payload-size ready is kept in
         let leads-out = lt-leb (sizeOf t payload) 4 (omega (arith, sized, large)) in
         rw leads-out (rw sized)
 
@@ -234,14 +235,14 @@ module _ (t : TypeTable) (values out : List ℕ) (base depth row at : ℕ) (c : 
     module _ {x : Opening} (e : r ≡ Open x) where
       pub payload-claimed : Claimed values (sizeOf t payload) base x
       payload-claimed =
-          let sized = payload-size what ready fits is kept in
+          let sized = payload-size ready is kept in
           let o = opening e in
           rw sized (record { within = omega (arith, ask .inside, o .0); advanced = o .1; stands = o .2 })
 
       module _ {out′ : List ℕ} {w : Wrote} (p : SingleOf t values out out′ base (depth - 1) x payload w) where
         claimed-put : Put values out out′ 0 at base c w (E.oneDeeper (R.levels t depth) (λ F b. E.claim size (F payload)) (drop (c .index) values) (c .next) (c .handles))
         claimed-put =
-            let sized = payload-size what ready fits is kept in
+            let sized = payload-size ready is kept in
             opening e .3 out′ w (rw sized at p)
 
         pub large-refused : {f : Fault} → w ≡ Refused f → ContentPut t values out out′ base depth at c what (Refused f)

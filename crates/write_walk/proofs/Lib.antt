@@ -1,10 +1,8 @@
-pub mod Parts
 pub mod ByKind
 pub mod Values
 pub mod Begins
 pub mod Plans
 pub mod Composite
-pub mod Objects
 pub mod OutOfLine
 pub mod Contents
 pub mod TableEnvelopes

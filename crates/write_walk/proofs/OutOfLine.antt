@@ -27,12 +27,12 @@ use Rattle.write_records.specs.declared.records.Opened.the-variants.{Closed, Op
 use Rattle.write_records.specs.declared.envelopes.Member.{Member}
 use Rattle.write_records.specs.declared.envelopes.Member.the-variants.{None, Some, Bad}
 use Rattle.write_leaves.specs.Putting.{Put, Puts, tookOne, Stands, Ask}
-use Rattle.write_records.specs.Opening.{claimedFrom, Opens}
+use Rattle.write_records.specs.Opening.{claimedFrom, Claimed, Opens}
 use Rattle.write_records.specs.Contracts.{Reaches, CountedOpens, BoxOpens, TableOpens, OpensMember, UnionOpens, MemberIs}
-use Rattle.write_walk.specs.Walking.{Claimed, writeRow, writeElements, writeEnvelope, ValuePut, ObjectOf, SingleOf, EnvelopesPut, ContentPut}
+use Rattle.write_walk.specs.Walking.{writeRow, writeElements, writeEnvelope, ValuePut, ObjectOf, SingleOf, EnvelopesPut, ContentPut}
 use Rattle.write_walk.proofs.ByKind.{encode-vector, encode-box, encode-table, encode-union}
 use Rattle.write_records.proofs.Counts.{counted-vector}
-use Rattle.write_walk.proofs.Objects.{words-filled}
+use Rattle.write_records.proofs.Objects.{words-written}
 
 -- The record's own bytes, by its kind.
 module _ (t : TypeTable) (row : ℕ) {values : List ℕ} {k at base : ℕ} {c : Cursor} (e : k ≡ kindAt t row) (a : Ask values (sizeOf t row) at base c) where
@@ -134,13 +134,12 @@ module _ (t : TypeTable) (values out out′ : List ℕ) (base depth row at : ℕ
       pub table-claimed : Claimed values (x .count * 8) base x
       table-claimed = claimed-in (λ x. x .count * 8) (λ x. E.elements (writeEnvelope t (depth - 1) row (x .count)) 1 (x .count)) x (table-row z)
 
-      pub table-done : (from : ℕ) {part′ lent : List ℕ} {w : Wrote} → from ≡ min (x .start - base) (length out′)
+      pub table-done : (from : ℕ) {part′ : List ℕ} {w : Wrote} → from ≡ min (x .start - base) (length out′)
           → EnvelopesPut t values (take (length out′ - from) (drop from out′)) part′ (x .start) (depth - 1) (x .cursor) row (x .count) w
-          → lent ≡ take from out′ ++ (part′ ++ drop (length out′ - from) (drop from out′))
-          → ValuePut t values out lent base depth at c row w
-      table-done from {part′} {lent} {w} least put back =
-          let k = table-claimed in
-          table-row z .3 lent w (words-filled out′ from (x .count) base (E.elements (writeEnvelope t (depth - 1) row (x .count)) 1 (x .count)) (k .within) (k .advanced) put least back)
+          → ValuePut t values out (take from out′ ++ (part′ ++ drop (length out′ - from) (drop from out′))) base depth at c row w
+      table-done from {part′} {w} least put =
+          table-row z .3 (take from out′ ++ (part′ ++ drop (length out′ - from) (drop from out′))) w
+          (words-written values out′ (x .count) base from x (E.elements (writeEnvelope t (depth - 1) row (x .count)) 1 (x .count)) table-claimed put least)
 
 -- ---- a union
 

@@ -2,9 +2,8 @@
 -- Assumes nothing.
 use mathlib.Core.List.{List}
 use mathlib.Core.Path.{_≡_}
-use Prim.Native.Nat.{ℕ, _*_, _≤_}
+use Prim.Native.Nat.{ℕ, _*_}
 use lib.Dec.{eqb}
-use lib.ListN.{drop}
 use Rattle.rules.specs.TypeTable.{TypeTable, aAt, bAt, contentOf}
 use Rattle.rules.specs.Sizes.{sizeOf}
 use Rattle.rules.specs.Encode as E
@@ -12,18 +11,18 @@ use Rattle.rules.specs.Encode.{Encoder}
 use Rattle.rules.specs.Envelope.{writeContentOfEightBytes}
 use Rattle.rules.specs.Writer as R
 use Rattle.ordinals.specs.declared.Ordinal.{Ordinal}
+use Rattle.ordinals.specs.declared.Ordinal.the-variants.{Known}
 use Rattle.ordinals.specs.Ordinals.{ordinalIs}
+use Rattle.layout.specs.Ready.{Ready}
 use Rattle.write_leaves.specs.declared.cursor.Cursor.{Cursor}
 use Rattle.write_leaves.specs.declared.cursor.Wrote.{Wrote}
 use Rattle.write_records.specs.declared.records.Opening.{Opening}
-use Rattle.write_leaves.specs.Putting.{Puts, Stands}
-use Rattle.write_records.specs.Opening.{opened, claimedFrom, ObjectPut}
+use Rattle.write_leaves.specs.Putting.{Puts}
+use Rattle.write_records.specs.Opening.{claimedFrom, ObjectPut}
 
--- An object of `size` bytes was claimed, in an output that starts before it.
-pub record Claimed (values : List ℕ) (size base : ℕ) (x : Opening) : Type 0 where
-  pub within : base ≤ x .start
-  pub advanced : x .cursor ≡ opened size (claimedFrom x)
-  pub stands : Stands values (x .cursor)
+-- What content of an ordinal needs of a type table.
+pub record PayloadReady (t : TypeTable) (sizes alignments : List ℕ) (depth : ℕ) (what : Ordinal) : Type 0 where
+  pub row-ready : (payload : ℕ) → what ≡ Known payload → Ready t sizes alignments depth payload
 
 module _ (t : TypeTable) where
   -- The value of a row, so deep.

@@ -2,14 +2,14 @@
 // smaller numbers stand in line; whatever stands out of line is one level down.
 ghost use mathlib.Core.Bool.{true};
 ghost use mathlib.Core.Path.{_≡_};
-ghost use Prim.Native.Nat.{_*_, _≤_, _<_, min};
+ghost use Prim.Native.Nat.{_*_, _<_};
 ghost use Rattle.rules.specs.TypeTable.{typeTable, kindAt};
 ghost use Rattle.rules.specs.Sizes.{sizeOf};
 ghost use Rattle.nesting.specs.Nesting.{hasParts};
-ghost use Rattle.ordinals.specs.Ordinals.{OrdinalFits};
 ghost use Rattle.layout.specs.Ready.{Ready, Outside};
 ghost use Rattle.write_leaves.specs.Putting.{Ask, cursorAt};
-ghost use Rattle.write_walk.specs.Walking.{Claimed, ValuePut, ElementsPut, ObjectOf, SingleOf, EnvelopesPut, ContentPut};
+ghost use Rattle.write_records.specs.Opening.{Claimed};
+ghost use Rattle.write_walk.specs.Walking.{PayloadReady, ValuePut, ElementsPut, ObjectOf, SingleOf, EnvelopesPut, ContentPut};
 use nesting::Level;
 use nesting::NESTED;
 use nesting::Step;
@@ -33,15 +33,11 @@ use write_records::records::Opened;
 use write_records::records::Opening;
 use write_records::records::box_opened;
 use write_records::records::deeper;
+use write_records::records::fill_up;
+use write_records::records::rest_from;
 use write_records::records::string;
 use write_records::records::table_opened;
 use write_records::records::vector_opened;
-
-fn least(a: usize, b: usize) -> usize
-    ensures { λ r. ⌜ r ≡ min a b ⌝ }
-{
-    if a < b { a } else { b }
-}
 
 // The value of a row at a place of the output, which starts at the byte `base` of the message. The cursor comes as three numbers:
 // as a struct it would go through memory at each level.
@@ -279,8 +275,8 @@ fn composite(
     }
 }
 
-// An object that is claimed: so many values of a row, written into the rest of the output from the object's own offset on,
-// and the fill after them.
+// An object that is claimed: so many values of a row and the fill after them, written into the rest of the output from the
+// object's own offset on.
 fn object(
     rows: &[u32],
     members: &[u32],
@@ -297,14 +293,15 @@ fn object(
         × Claimed (now values) (x .count * sizeOf (typeTable (now rows) (now members)) row) base x ⌝ }
     ensures { λ r. ⌜ ObjectOf (typeTable (now (rows .entry)) (now (members .entry))) (now (values .entry)) (now (out .entry)) (now (out .exit)) base depth x row r ⌝ }
 {
-    let from = least(x.start - base, out.len());
+    let from = rest_from(base, x.start, out.len());
+    let rest = &mut out[from..];
     let wrote = elements(
         rows,
         members,
         sizes,
         alignments,
         values,
-        &mut out[from..],
+        rest,
         x.start,
         depth,
         row,
@@ -312,8 +309,7 @@ fn object(
         0,
         x.cursor,
     );
-    let length = x.count * words::number_at(sizes, row) as usize;
-    put_zeros(out, x.start - base + length, (8 - length % 8) % 8);
+    fill_up(rest, x.count * words::number_at(sizes, row) as usize);
     wrote
 }
 
@@ -334,14 +330,15 @@ fn single(
         × Claimed (now values) (sizeOf (typeTable (now rows) (now members)) row) base x ⌝ }
     ensures { λ r. ⌜ SingleOf (typeTable (now (rows .entry)) (now (members .entry))) (now (values .entry)) (now (out .entry)) (now (out .exit)) base depth x row r ⌝ }
 {
-    let from = least(x.start - base, out.len());
+    let from = rest_from(base, x.start, out.len());
+    let rest = &mut out[from..];
     let wrote = value(
         rows,
         members,
         sizes,
         alignments,
         values,
-        &mut out[from..],
+        rest,
         x.start,
         depth,
         row,
@@ -350,8 +347,7 @@ fn single(
         x.cursor.handles,
         x.cursor.index,
     );
-    let length = words::number_at(sizes, row) as usize;
-    put_zeros(out, x.start - base + length, (8 - length % 8) % 8);
+    fill_up(rest, words::number_at(sizes, row) as usize);
     passed_on(wrote)
 }
 
@@ -420,7 +416,7 @@ fn out_of_line(
             Opened::Closed(d) => Wrote::On(d),
             Opened::Refused(f) => Wrote::Refused(f),
             Opened::Open(x) => {
-                let from = least(x.start - base, out.len());
+                let from = rest_from(base, x.start, out.len());
                 passed_on(envelopes(
                     rows,
                     members,
@@ -449,7 +445,6 @@ fn out_of_line(
             out,
             base,
             depth,
-            row,
             what,
             at + 8,
             d,
@@ -504,7 +499,6 @@ fn envelopes(
                 out,
                 base,
                 depth,
-                row,
                 what,
                 place,
                 e,
@@ -531,12 +525,11 @@ fn content(
     out: &mut [u8],
     base: usize,
     depth: usize,
-    row: usize,
     what: Ordinal,
     at: usize,
     c: Cursor,
 ) -> Wrote
-    requires { ⌜ Ready (typeTable (now rows) (now members)) (now sizes) (now alignments) depth row × OrdinalFits (typeTable (now rows) (now members)) what
+    requires { ⌜ PayloadReady (typeTable (now rows) (now members)) (now sizes) (now alignments) depth what
         × Ask (now values) 8 at base c × (0 < c .index) ⌝ }
     ensures { λ r. ⌜ ContentPut (typeTable (now (rows .entry)) (now (members .entry))) (now (values .entry)) (now (out .entry)) (now (out .exit)) base depth at c what r ⌝ }
 {

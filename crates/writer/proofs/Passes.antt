@@ -2,8 +2,7 @@
 -- Assumes nothing.
 use mathlib.Core.Path.{_≡_, refl, sym, ap, _∙_}
 use mathlib.Core.List.{List, [], _∷_}
-use Prim.Native.Nat.{ℕ, suc, _+_, _-_, _*_, _/_, _≤_, _<_}
-use native.Mathlib.Nat.{zero-add}
+use Prim.Native.Nat.{ℕ, suc, _+_, _-_, _*_, _/_, _≤_}
 use native.Mathlib.Omega.{arith}
 use borrow.Author.Tests.{le-leb, eq-eqb, ne-eqb}
 use lib.ListN.{length, getD, length-drop}
@@ -32,7 +31,7 @@ use Rattle.write_leaves.specs.Putting.{answer, Stored, Fit, Put, Ask}
 use Rattle.write_walk.specs.Walking.{ValuePut}
 use Rattle.writer.specs.Answers.{writtenOf, sizesOf}
 use Rattle.writer.specs.Passing.{start, afterValue, PrimaryPut, Passed}
-use Rattle.write_records.proofs.Claims.{object-put}
+use Rattle.write_records.proofs.Claims.{object-filled}
 
 -- ---- the primary object
 
@@ -68,7 +67,7 @@ module _ {t : TypeTable} {sizes alignments : List ℕ} {root : ℕ} (ready : Rea
   root-asked values =
       (ready, record { inside = omega (arith, root-size); free = omega (arith, root-size, size-bound); held = omega arith; left = omega arith })
 
-  pub fill-asked : size + ((size + 7) / 8 * 8 - size) < 4294967296
+  pub fill-asked : size ≤ 65536
   fill-asked = omega (arith, root-size, size-bound)
 
   module _ {values out out′ : List ℕ} {r : Wrote} (put : ValuePut t values out out′ 0 32 0 first root r) where
@@ -82,13 +81,8 @@ module _ {t : TypeTable} {sizes alignments : List ℕ} {root : ℕ} (ready : Rea
     pub primary-refused : {f : Fault} → r ≡ Refused f → PrimaryPut t values root out out′ (Refused f)
     primary-refused e = rw (encode-root t root values size-bound) (object-refused (sizeOf t root) written (sym e ∙ value-put .says))
 
-    pub primary-put : {end : Cursor} {out″ : List ℕ} → r ≡ On end → out″ ≡ sets out′ size (zeros ((size + 7) / 8 * 8 - size))
-        → PrimaryPut t values root out out″ (On end)
-    primary-put {end} {out″} e z =
-        let filled : out″ ≡ sets out′ (0 + sizeOf t root) (zeros (padded (sizeOf t root) - sizeOf t root))
-        = z ∙ rw (claimed, root-size, zero-add, zero-add) in
-        rw (encode-root t root values size-bound)
-        (object-put {c = start} (omega arith) (rw e at value-put) (λ inline outside s. s ∙ rw zero-add) filled)
+    pub primary-put : {end : Cursor} {out″ : List ℕ} → r ≡ On end → out″ ≡ sets out′ size (zeros (padded size - size)) → PrimaryPut t values root out out″ (On end)
+    primary-put e z = rw (encode-root t root values size-bound) (object-filled {c = start} (rw e at value-put) (rw root-size at z))
 
 -- ---- after it
 

@@ -16,7 +16,7 @@ use rules::Place;
 use write_leaves::cursor::Cursor;
 use write_leaves::cursor::Wrote;
 use write_leaves::cursor::fault_at;
-use write_leaves::cursor::put_zeros;
+use write_records::records::fill_up;
 use write_walk::cycle::value;
 
 // The primary object: the root's value at 0, and its fill.
@@ -51,7 +51,7 @@ fn primary(
     ) {
         Wrote::Refused(f) => Wrote::Refused(f),
         Wrote::On(end) => {
-            put_zeros(out, size, whole - size);
+            fill_up(out, size);
             Wrote::On(end)
         }
     }

@@ -1,9 +1,8 @@
 -- `unknown_out_of_line` meets its contract: a law for each way that it ends.
 -- Assumes nothing.
 use mathlib.Core.Path.{refl}
-use native.Mathlib.Omega.{arith}
 use borrow.Author.Needs.{needs}
-use Rattle.write_records.proofs.UnknownContent.{out-over, out-ended, out-many, plain-over, plain-put}
+use Rattle.write_records.proofs.UnknownContent.{words-claimed, out-over, out-ended, out-many, plain-over, plain-put}
 use Rattle.write_records.proofs.envelopes.unknown_out_of_line.Statement.{statement}
 use Rattle.write_records.proofs.envelopes.unknown_out_of_line.Tie as tie
 
@@ -16,8 +15,8 @@ returns-2 c = search (needs, out-ended)
 returns-3 : tie.Need-returns-3
 returns-3 c = search (needs, out-many)
 
-numbers-requires : tie.Need-numbers-requires
-numbers-requires c κs = (refl, record { free = omega arith; held = omega arith; left = omega arith }, omega arith)
+object-of-numbers-requires : tie.Need-object-of-numbers-requires
+object-of-numbers-requires c κs = (refl, search (needs, words-claimed))
 
 returns-4 : tie.Need-returns-4
 returns-4 c = search (needs, plain-over)
@@ -31,5 +30,5 @@ unknown-out-of-line-spec =
     (tie.spec
     (λ c. search needs) (λ c. search needs) (λ c κs. search needs) returns (λ c κs. search needs) returns-2
     (λ c κs. search needs) (λ c κs. search needs) returns-3 (λ c. search needs) (λ c κs. search needs) returns-4
-    (λ c. search needs) (λ c κs. search needs) (λ c. search needs) (λ c. search needs) (λ c. search needs)
-    numbers-requires (λ c. search needs) returns-5)
+    (λ c. search needs) (λ c κs. search needs) (λ c. search needs) (λ c. search needs) object-of-numbers-requires
+    (λ c. search needs) returns-5)

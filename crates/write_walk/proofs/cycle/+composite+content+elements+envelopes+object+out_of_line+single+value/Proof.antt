@@ -24,9 +24,9 @@ use Rattle.write_leaves.proofs.Runs.{RunLeft, run-start, run-asks, run-next, ru
 use Rattle.write_walk.proofs.Values.{value-bool, value-number, value-handle, value-string, value-empty, string-ask, number-ask, numbers-ask, numbers-done, array-ask, array-done}
 use Rattle.write_walk.proofs.Plans.{planned-ask, planned-done, alone-ask, alone-done}
 use Rattle.write_walk.proofs.Composite.{Writing, writing-start, level-known, fill-within, fill-done, into-done, call-asks, call-done, call-refused, out-done, all-put}
-use Rattle.write_walk.proofs.Objects.{object-asks, object-few, object-length, object-written}
+use Rattle.write_records.proofs.Objects.{object-asks, object-few, object-counted, object-written}
 use Rattle.write_walk.proofs.OutOfLine.{vector-record, box-record, table-record, union-record, level-left, vector-closed, vector-refused, vector-claimed, vector-done, box-absent, box-refused, box-claimed, box-done, table-closed, table-refused, table-claimed, table-done, union-none, union-bad, union-asks, union-fits, union-done}
-use Rattle.write_walk.proofs.Contents.{put-rises, content-unknown, payload-few, payload-ready, payload-small, payload-size, small-too-deep, small-asks, small-refused, small-sealed, large-closed, large-not-open, payload-claimed, large-refused, large-rises, large-sealed}
+use Rattle.write_walk.proofs.Contents.{put-rises, content-unknown, content-ready, payload-few, payload-ready, payload-small, payload-size, small-too-deep, small-asks, small-refused, small-sealed, large-closed, large-not-open, payload-claimed, large-refused, large-rises, large-sealed}
 use Rattle.write_walk.proofs.TableEnvelopes.{EnvelopesLeft, envelopes-start, envelopes-end, envelope-asks, one-ended, one-wrong, one-absent, content-asks, one-present, one-refused}
 use borrow.Fn.Kinds.{In}
 use borrow.Fn.PlainCycle.{Measures, is, falls, and}
@@ -71,6 +71,8 @@ use Rattle.write_records.proofs.envelopes.unknown_content.Reads as unknown-cont
 use Rattle.write_leaves.proofs.planned.planned.Reads as planned-reads
 use Rattle.write_records.proofs.records.box_opened.Reads as box-opened-reads
 use Rattle.write_records.proofs.records.deeper.Reads as deeper-reads
+use Rattle.write_records.proofs.records.fill_up.Reads as fill-up-reads
+use Rattle.write_records.proofs.records.rest_from.Reads as rest-from-reads
 use Rattle.write_records.proofs.records.string.Reads as string-reads
 use Rattle.write_records.proofs.records.table_opened.Reads as table-opened-reads
 use Rattle.write_records.proofs.records.vector_opened.Reads as vector-opened-reads
@@ -78,7 +80,6 @@ use Rattle.write_leaves.proofs.scalars.boolean.Reads as boolean-reads
 use Rattle.write_leaves.proofs.scalars.handle.Reads as handle-reads
 use Rattle.write_leaves.proofs.scalars.number.Reads as number-reads
 use Rattle.write_leaves.proofs.scalars.numbers.Reads as numbers-reads
-use Rattle.write_walk.proofs.cycle.least.Reads as least-reads
 use Rattle.write_walk.proofs.cycle.+composite+content+elements+envelopes+object+out_of_line+single+value.{statement}
 use Rattle.write_walk.proofs.cycle.+composite+content+elements+envelopes+object+out_of_line+single+value.Tie.{close}
 
@@ -323,12 +324,12 @@ content-calls t = (unknown-content-reads.Asked, unknown-content-reads.Learnt, nu
 content-unknown-content-requires : (t : ℕ) → content-lts.Need-unknown-content-requires (content-calls t) (content-at t) content.Post
 content-unknown-content-requires t c κs =
     let start = c .before .before .before .before .before .before .before in
-    (start .pre .1 .2, start .pre .1 .3)
+    (start .pre .1 .1, start .pre .1 .2)
 
 content-sub-refused : (t : ℕ) → content-lts.Need-sub-refused (content-calls t) (content-at t) content.Post
 content-sub-refused t c =
     let start = c .before .before .before .before .before .before .before .before .before .before .before .before in
-    omega (arith, start .pre .1 .3)
+    omega (arith, start .pre .1 .2)
 
 content-returns : (t : ℕ) → content-lts.Need-returns (content-calls t) (content-at t) content.Post
 content-returns t c = search (needs, small-too-deep)
@@ -345,7 +346,7 @@ content-value-requires t c κs =
     let at-number-at = at-if1 .before in
     let at-what = at-number-at .before .before .before in
     let start = at-what .before .before .before .before .before .before in
-    (omega (arith, start .pre .0, at-if2 .if2 .left, payload-few _ (start .pre .1 .0) (start .pre .1 .1) (at-what .what .given .1)), (payload-ready _ (start .pre .1 .0) (start .pre .1 .1) (at-what .what .given .1), small-asks _ _ (start .args .out .now) _ _ _ _ _ _ (start .pre .1 .0) (start .pre .1 .1) (at-what .what .given .1) (at-number-at .number-at .ensures) (start .pre .1 .2) (omega (arith, at-if1 .if1 .taken)) (λ z. omega (arith, z, at-if2 .if2 .left))))
+    (omega (arith, start .pre .0, at-if2 .if2 .left, payload-few (start .pre .1 .0) (at-what .what .given .1)), (payload-ready (start .pre .1 .0) (at-what .what .given .1), small-asks _ _ (start .args .out .now) _ _ _ _ _ (start .pre .1 .0) (at-what .what .given .1) (at-number-at .number-at .ensures) (start .pre .1 .1) (omega (arith, at-if1 .if1 .taken)) (λ z. omega (arith, z, at-if2 .if2 .left))))
 
 content-sub-sealed : (t : ℕ) → content-lts.Need-sub-sealed (content-calls t) (content-at t) content.Post
 content-sub-sealed t c =
@@ -363,7 +364,7 @@ content-sealed-requires : (t : ℕ) → content-lts.Need-sealed-requires (conten
 content-sealed-requires t c κs =
     let at-if1 = c .before .before .before .before .before .before .before .before .before .before .before in
     let start = at-if1 .before .before .before .before .before .before .before .before .before .before in
-    (omega (arith, start .pre .1 .2 .inside, start .pre .1 .2 .free), omega (arith, at-if1 .if1 .taken))
+    (omega (arith, start .pre .1 .1 .inside, start .pre .1 .1 .free), omega (arith, at-if1 .if1 .taken))
 
 content-returns-2 : (t : ℕ) → content-lts.Need-returns-2 (content-calls t) (content-at t) content.Post
 content-returns-2 t c = search (needs, small-refused)
@@ -378,14 +379,14 @@ content-returns-3 t c =
     let at-number-at = at-if1 .before in
     let at-what = at-number-at .before .before .before in
     let start = at-what .before .before .before .before .before .before in
-    small-sealed _ _ _ _ _ _ _ _ _ (start .pre .1 .0) (start .pre .1 .1) (at-what .what .given .1) (at-number-at .number-at .ensures) (start .pre .1 .2) (omega (arith, at-if1 .if1 .taken)) (λ z. omega (arith, z, at-if2 .if2 .left)) (at-value .value .ensures) (at-d .d .given .1) refl (at-sealed .sealed .ensures)
+    small-sealed _ _ _ _ _ _ _ _ (start .pre .1 .0) (at-what .what .given .1) (at-number-at .number-at .ensures) (start .pre .1 .1) (omega (arith, at-if1 .if1 .taken)) (λ z. omega (arith, z, at-if2 .if2 .left)) (at-value .value .ensures) (at-d .d .given .1) refl (at-sealed .sealed .ensures)
 
 content-deeper-requires : (t : ℕ) → content-lts.Need-deeper-requires (content-calls t) (content-at t) content.Post
 content-deeper-requires t c κs =
     let at-number-at = c .before in
     let at-what = at-number-at .before .before .before in
     let start = at-what .before .before .before .before .before .before in
-    (start .pre .1 .2 .free, start .pre .1 .2 .held, start .pre .1 .3, omega (arith, payload-small _ (start .pre .1 .0) (start .pre .1 .1) (at-what .what .given .1) (at-number-at .number-at .ensures)))
+    (start .pre .1 .1 .free, start .pre .1 .1 .held, start .pre .1 .2, omega (arith, payload-small (start .pre .1 .0) (at-what .what .given .1) (at-number-at .number-at .ensures)))
 
 content-sub-single : (t : ℕ) → content-lts.Need-sub-single (content-calls t) (content-at t) content.Post
 content-sub-single t c =
@@ -401,7 +402,7 @@ content-single-requires t c κs =
     let at-number-at = at-if1 .before in
     let at-what = at-number-at .before .before .before in
     let start = at-what .before .before .before .before .before .before in
-    let l = level-left _ _ (at-deeper .deeper .ensures .2) (at-x .x .given .1) in (omega (arith, start .pre .0, l, payload-few _ (start .pre .1 .0) (start .pre .1 .1) (at-what .what .given .1)), (payload-ready _ (start .pre .1 .0) (start .pre .1 .1) (at-what .what .given .1), payload-claimed _ _ (start .args .out .now) _ _ _ _ _ _ (start .pre .1 .0) (start .pre .1 .1) (at-what .what .given .1) (at-number-at .number-at .ensures) (start .pre .1 .2) (omega (arith, at-if1 .if1 .left)) _ (at-deeper .deeper .ensures .0) (at-x .x .given .1)))
+    let l = level-left _ _ (at-deeper .deeper .ensures .2) (at-x .x .given .1) in (omega (arith, start .pre .0, l, payload-few (start .pre .1 .0) (at-what .what .given .1)), (payload-ready (start .pre .1 .0) (at-what .what .given .1), payload-claimed _ _ (start .args .out .now) _ _ _ _ _ (start .pre .1 .0) (at-what .what .given .1) (at-number-at .number-at .ensures) (start .pre .1 .1) (omega (arith, at-if1 .if1 .left)) _ (at-deeper .deeper .ensures .0) (at-x .x .given .1)))
 
 content-sub-bytes : (t : ℕ) → content-lts.Need-sub-bytes (content-calls t) (content-at t) content.Post
 content-sub-bytes t c =
@@ -413,7 +414,7 @@ content-sub-bytes t c =
     let at-number-at = at-if1 .before in
     let at-what = at-number-at .before .before .before in
     let start = at-what .before .before .before .before .before .before in
-    omega (arith, large-rises _ _ _ _ _ _ _ _ _ (start .pre .1 .0) (start .pre .1 .1) (at-what .what .given .1) (at-number-at .number-at .ensures) (start .pre .1 .2) (omega (arith, at-if1 .if1 .left)) _ (at-deeper .deeper .ensures .0) (at-x .x .given .1) (at-single .single .ensures) (at-d3 .d3 .given .1))
+    omega (arith, large-rises _ _ _ _ _ _ _ _ (start .pre .1 .0) (at-what .what .given .1) (at-number-at .number-at .ensures) (start .pre .1 .1) (omega (arith, at-if1 .if1 .left)) _ (at-deeper .deeper .ensures .0) (at-x .x .given .1) (at-single .single .ensures) (at-d3 .d3 .given .1))
 
 content-cast-sealed-2 : (t : ℕ) → content-lts.Need-cast-sealed-2 (content-calls t) (content-at t) content.Post
 content-cast-sealed-2 t c =
@@ -425,7 +426,7 @@ content-cast-sealed-2 t c =
     let at-number-at = at-if1 .before in
     let at-what = at-number-at .before .before .before in
     let start = at-what .before .before .before .before .before .before in
-    record { fits = omega (arith, large-rises _ _ _ _ _ _ _ _ _ (start .pre .1 .0) (start .pre .1 .1) (at-what .what .given .1) (at-number-at .number-at .ensures) (start .pre .1 .2) (omega (arith, at-if1 .if1 .left)) _ (at-deeper .deeper .ensures .0) (at-x .x .given .1) (at-single .single .ensures) (at-d3 .d3 .given .1)) }
+    record { fits = omega (arith, large-rises _ _ _ _ _ _ _ _ (start .pre .1 .0) (at-what .what .given .1) (at-number-at .number-at .ensures) (start .pre .1 .1) (omega (arith, at-if1 .if1 .left)) _ (at-deeper .deeper .ensures .0) (at-x .x .given .1) (at-single .single .ensures) (at-d3 .d3 .given .1)) }
 
 content-sub-sealed-2 : (t : ℕ) → content-lts.Need-sub-sealed-2 (content-calls t) (content-at t) content.Post
 content-sub-sealed-2 t c =
@@ -437,7 +438,7 @@ content-sub-sealed-2 t c =
     let at-number-at = at-if1 .before in
     let at-what = at-number-at .before .before .before in
     let start = at-what .before .before .before .before .before .before in
-    omega (arith, large-rises _ _ _ _ _ _ _ _ _ (start .pre .1 .0) (start .pre .1 .1) (at-what .what .given .1) (at-number-at .number-at .ensures) (start .pre .1 .2) (omega (arith, at-if1 .if1 .left)) _ (at-deeper .deeper .ensures .0) (at-x .x .given .1) (at-single .single .ensures) (at-d3 .d3 .given .1))
+    omega (arith, large-rises _ _ _ _ _ _ _ _ (start .pre .1 .0) (at-what .what .given .1) (at-number-at .number-at .ensures) (start .pre .1 .1) (omega (arith, at-if1 .if1 .left)) _ (at-deeper .deeper .ensures .0) (at-x .x .given .1) (at-single .single .ensures) (at-d3 .d3 .given .1))
 
 content-cast-sealed-3 : (t : ℕ) → content-lts.Need-cast-sealed-3 (content-calls t) (content-at t) content.Post
 content-cast-sealed-3 t c =
@@ -449,14 +450,14 @@ content-cast-sealed-3 t c =
     let at-number-at = at-if1 .before in
     let at-what = at-number-at .before .before .before in
     let start = at-what .before .before .before .before .before .before in
-    record { fits = omega (arith, large-rises _ _ _ _ _ _ _ _ _ (start .pre .1 .0) (start .pre .1 .1) (at-what .what .given .1) (at-number-at .number-at .ensures) (start .pre .1 .2) (omega (arith, at-if1 .if1 .left)) _ (at-deeper .deeper .ensures .0) (at-x .x .given .1) (at-single .single .ensures) (at-d3 .d3 .given .1)) }
+    record { fits = omega (arith, large-rises _ _ _ _ _ _ _ _ (start .pre .1 .0) (at-what .what .given .1) (at-number-at .number-at .ensures) (start .pre .1 .1) (omega (arith, at-if1 .if1 .left)) _ (at-deeper .deeper .ensures .0) (at-x .x .given .1) (at-single .single .ensures) (at-d3 .d3 .given .1)) }
 
 content-sealed-requires-2 : (t : ℕ) → content-lts.Need-sealed-requires-2 (content-calls t) (content-at t) content.Post
 content-sealed-requires-2 t c κs =
     let at-number-at = c .before .before .before .before .before .before .before .before .before .before .before .before .before .before .before .before .before in
     let at-what = at-number-at .before .before .before in
     let start = at-what .before .before .before .before .before .before in
-    (omega (arith, start .pre .1 .2 .inside, start .pre .1 .2 .free), payload-small _ (start .pre .1 .0) (start .pre .1 .1) (at-what .what .given .1) (at-number-at .number-at .ensures))
+    (omega (arith, start .pre .1 .1 .inside, start .pre .1 .1 .free), payload-small (start .pre .1 .0) (at-what .what .given .1) (at-number-at .number-at .ensures))
 
 content-returns-4 : (t : ℕ) → content-lts.Need-returns-4 (content-calls t) (content-at t) content.Post
 content-returns-4 t c = search (needs, content-unknown)
@@ -469,7 +470,7 @@ content-returns-5 t c =
     let at-number-at = at-if1 .before in
     let at-what = at-number-at .before .before .before in
     let start = at-what .before .before .before .before .before .before in
-    large-closed _ _ _ _ _ _ _ _ _ (start .pre .1 .0) (start .pre .1 .1) (at-what .what .given .1) (at-number-at .number-at .ensures) (start .pre .1 .2) (omega (arith, at-if1 .if1 .left)) _ (at-deeper .deeper .ensures .0) (at-deeper .deeper .ensures .3) (at-d2 .d2 .given .1)
+    large-closed _ _ _ _ _ _ _ _ (start .pre .1 .0) (at-what .what .given .1) (at-number-at .number-at .ensures) (start .pre .1 .1) (omega (arith, at-if1 .if1 .left)) _ (at-deeper .deeper .ensures .0) (at-deeper .deeper .ensures .3) (at-d2 .d2 .given .1)
 
 content-returns-6 : (t : ℕ) → content-lts.Need-returns-6 (content-calls t) (content-at t) content.Post
 content-returns-6 t c =
@@ -479,7 +480,7 @@ content-returns-6 t c =
     let at-number-at = at-if1 .before in
     let at-what = at-number-at .before .before .before in
     let start = at-what .before .before .before .before .before .before in
-    large-not-open _ _ _ _ _ _ _ _ _ (start .pre .1 .0) (start .pre .1 .1) (at-what .what .given .1) (at-number-at .number-at .ensures) (start .pre .1 .2) (omega (arith, at-if1 .if1 .left)) _ (at-deeper .deeper .ensures .0) (at-f2 .f2 .given .1)
+    large-not-open _ _ _ _ _ _ _ _ (start .pre .1 .0) (at-what .what .given .1) (at-number-at .number-at .ensures) (start .pre .1 .1) (omega (arith, at-if1 .if1 .left)) _ (at-deeper .deeper .ensures .0) (at-f2 .f2 .given .1)
 
 content-returns-7 : (t : ℕ) → content-lts.Need-returns-7 (content-calls t) (content-at t) content.Post
 content-returns-7 t c =
@@ -491,7 +492,7 @@ content-returns-7 t c =
     let at-number-at = at-if1 .before in
     let at-what = at-number-at .before .before .before in
     let start = at-what .before .before .before .before .before .before in
-    large-refused _ _ _ _ _ _ _ _ _ (start .pre .1 .0) (start .pre .1 .1) (at-what .what .given .1) (at-number-at .number-at .ensures) (start .pre .1 .2) (omega (arith, at-if1 .if1 .left)) _ (at-deeper .deeper .ensures .0) (at-x .x .given .1) (at-single .single .ensures) (at-f3 .f3 .given .1)
+    large-refused _ _ _ _ _ _ _ _ (start .pre .1 .0) (at-what .what .given .1) (at-number-at .number-at .ensures) (start .pre .1 .1) (omega (arith, at-if1 .if1 .left)) _ (at-deeper .deeper .ensures .0) (at-x .x .given .1) (at-single .single .ensures) (at-f3 .f3 .given .1)
 
 content-returns-8 : (t : ℕ) → content-lts.Need-returns-8 (content-calls t) (content-at t) content.Post
 content-returns-8 t c =
@@ -504,7 +505,7 @@ content-returns-8 t c =
     let at-number-at = at-if1 .before in
     let at-what = at-number-at .before .before .before in
     let start = at-what .before .before .before .before .before .before in
-    large-sealed _ _ _ _ _ _ _ _ _ (start .pre .1 .0) (start .pre .1 .1) (at-what .what .given .1) (at-number-at .number-at .ensures) (start .pre .1 .2) (omega (arith, at-if1 .if1 .left)) _ (at-deeper .deeper .ensures .0) (at-x .x .given .1) (at-single .single .ensures) (at-d3 .d3 .given .1) refl refl (at-sealed2 .sealed2 .ensures)
+    large-sealed _ _ _ _ _ _ _ _ (start .pre .1 .0) (at-what .what .given .1) (at-number-at .number-at .ensures) (start .pre .1 .1) (omega (arith, at-if1 .if1 .left)) _ (at-deeper .deeper .ensures .0) (at-x .x .given .1) (at-single .single .ensures) (at-d3 .d3 .given .1) refl refl (at-sealed2 .sealed2 .ensures)
 
 -- ---- elements: a vector's elements, or what an object holds
 
@@ -613,7 +614,7 @@ envelopes-content-requires t c κs =
     let at-number-at2 = at-loop .before in
     let at-number-at = at-number-at2 .before in
     let start = at-number-at .before .before .before .before .before in
-    let m = table-members (start .pre .1 .0) refl (at-number-at .number-at .ensures) (at-number-at2 .number-at2 .ensures) (start .pre .1 .1) in let a = content-asks _ _ _ _ _ _ _ _ (at-loop .loop .inv .0) (at-loop-test .loop-test .taken) (omega (arith, at-if1 .if1 .left)) (at-value-at .value-at .ensures) (at-if2 .if2 .left) (at-took .took .ensures) in (omega (arith, start .pre .0), (start .pre .1 .0, ordinal-fits m _ (at-ordinal-of .ordinal-of .result) (ordinal-content m _ (at-ordinal-of .ordinal-of .result) (at-ordinal-of .ordinal-of .ensures)), a .0, a .1))
+    let m = table-members (start .pre .1 .0) refl (at-number-at .number-at .ensures) (at-number-at2 .number-at2 .ensures) (start .pre .1 .1) in let a = content-asks _ _ _ _ _ _ _ _ (at-loop .loop .inv .0) (at-loop-test .loop-test .taken) (omega (arith, at-if1 .if1 .left)) (at-value-at .value-at .ensures) (at-if2 .if2 .left) (at-took .took .ensures) in (omega (arith, start .pre .0), (content-ready _ (start .pre .1 .0) (ordinal-fits m _ (at-ordinal-of .ordinal-of .result) (ordinal-content m _ (at-ordinal-of .ordinal-of .result) (at-ordinal-of .ordinal-of .ensures))), a .0, a .1))
 
 envelopes-loop-again-2 : (t : ℕ) → envelopes-lts.Need-loop-again-2 (envelopes-calls t) (envelopes-at t) envelopes.Post envelopes-Inv-loop envelopes-μ-loop
 envelopes-loop-again-2 t c =
@@ -655,54 +656,43 @@ envelopes-returns-4 t c = search (needs, envelopes-end)
 -- ---- object: a claimed object
 
 abbrev object-calls : ℕ → object-lts.Claims
-object-calls t = (least-reads.Asked, least-reads.Learnt, elements-below t, elements.Post, number-at-reads.Asked, number-at-reads.Learnt, put-zeros-reads.Asked, put-zeros-reads.Learnt)
+object-calls t = (rest-from-reads.Asked, rest-from-reads.Learnt, elements-below t, elements.Post, number-at-reads.Asked, number-at-reads.Learnt, fill-up-reads.Asked, fill-up-reads.Learnt)
 
-object-sub-least : (t : ℕ) → object-lts.Need-sub-least (object-calls t) (object-at t) object.Post
-object-sub-least t c =
-    let start = c .before .before .before .before .before in
-    omega (arith, start .pre .1 .1 .within)
+object-rest-from-requires : (t : ℕ) → object-lts.Need-rest-from-requires (object-calls t) (object-at t) object.Post
+object-rest-from-requires t c κs =
+    let start = c .before .before .before .before in
+    start .pre .1 .1 .within
 
 object-elements-requires : (t : ℕ) → object-lts.Need-elements-requires (object-calls t) (object-at t) object.Post
 object-elements-requires t c κs =
     let start = c .before .before .before .before .before .before .before in
     (omega (arith, start .pre .0), (start .pre .1 .0, object-asks _ _ _ (start .pre .1 .1)))
 
-object-mul-length : (t : ℕ) → object-lts.Need-mul-length (object-calls t) (object-at t) object.Post
-object-mul-length t c =
+object-mul-fill-up : (t : ℕ) → object-lts.Need-mul-fill-up (object-calls t) (object-at t) object.Post
+object-mul-fill-up t c =
     let at-number-at = c .before in
     let start = at-number-at .before .before .before .before .before .before .before .before .before .before .before .before in
-    let l = object-length _ _ (start .pre .1 .1) (ap (λ (size : ℕ). start .args .x .count * size) (row-size (start .pre .1 .0) _ (start .pre .1 .0 .in-use) (at-number-at .number-at .ensures))) in record { fits = omega (arith, l .0) }
+    record { fits = omega (arith, object-counted _ _ (start .pre .1 .1) (ap (λ (size : ℕ). start .args .x .count * size) (row-size (start .pre .1 .0) _ (start .pre .1 .0 .in-use) (at-number-at .number-at .ensures)))) }
 
-object-sub-put-zeros : (t : ℕ) → object-lts.Need-sub-put-zeros (object-calls t) (object-at t) object.Post
-object-sub-put-zeros t c =
-    let start = c .before .before .before .before .before .before .before .before .before .before .before .before .before .before .before in
-    omega (arith, start .pre .1 .1 .within)
-
-object-add-put-zeros : (t : ℕ) → object-lts.Need-add-put-zeros (object-calls t) (object-at t) object.Post
-object-add-put-zeros t c =
-    let at-number-at = c .before .before .before in
+object-fill-up-requires : (t : ℕ) → object-lts.Need-fill-up-requires (object-calls t) (object-at t) object.Post
+object-fill-up-requires t c κs =
+    let at-number-at = c .before in
     let start = at-number-at .before .before .before .before .before .before .before .before .before .before .before .before in
-    let l = object-length _ _ (start .pre .1 .1) (ap (λ (size : ℕ). start .args .x .count * size) (row-size (start .pre .1 .0) _ (start .pre .1 .0 .in-use) (at-number-at .number-at .ensures))) in record { fits = omega (arith, l .0, l .2) }
-
-object-put-zeros-requires : (t : ℕ) → object-lts.Need-put-zeros-requires (object-calls t) (object-at t) object.Post
-object-put-zeros-requires t c κs =
-    let at-number-at = c .before .before .before in
-    let start = at-number-at .before .before .before .before .before .before .before .before .before .before .before .before in
-    let l = object-length _ _ (start .pre .1 .1) (ap (λ (size : ℕ). start .args .x .count * size) (row-size (start .pre .1 .0) _ (start .pre .1 .0 .in-use) (at-number-at .number-at .ensures))) in omega (arith, l .0, l .2)
+    object-counted _ _ (start .pre .1 .1) (ap (λ (size : ℕ). start .args .x .count * size) (row-size (start .pre .1 .0) _ (start .pre .1 .0 .in-use) (at-number-at .number-at .ensures)))
 
 object-returns : (t : ℕ) → object-lts.Need-returns (object-calls t) (object-at t) object.Post
 object-returns t c =
-    let at-put-zeros = c .before .before in
-    let at-number-at = at-put-zeros .before .before .before .before in
+    let at-fill-up = c .before .before in
+    let at-number-at = at-fill-up .before .before in
     let at-elements = at-number-at .before .before .before .before in
-    let at-least = at-elements .before .before in
-    let start = at-least .before .before .before .before .before .before in
-    object-written _ (start .args .out .now) _ _ _ _ (writeElements (typeTable (start .args .rows .now) (start .args .members .now)) (start .args .depth) (start .args .row) (start .args .x .count)) (start .pre .1 .1) (at-elements .elements .ensures) (at-least .least .ensures) (ap (λ (size : ℕ). start .args .x .count * size) (row-size (start .pre .1 .0) _ (start .pre .1 .0 .in-use) (at-number-at .number-at .ensures))) (at-put-zeros .put-zeros .ensures) refl
+    let at-rest-from = at-elements .before .before .before in
+    let start = at-rest-from .before .before .before .before .before in
+    object-written _ (start .args .out .now) _ _ _ _ (writeElements (typeTable (start .args .rows .now) (start .args .members .now)) (start .args .depth) (start .args .row) (start .args .x .count)) (start .pre .1 .1) (at-elements .elements .ensures) (at-rest-from .rest-from .ensures) (ap (λ (size : ℕ). start .args .x .count * size) (row-size (start .pre .1 .0) _ (start .pre .1 .0 .in-use) (at-number-at .number-at .ensures))) (at-fill-up .fill-up .ensures) refl
 
 -- ---- out_of_line: vector, box, table and union
 
 abbrev out-of-line-calls : ℕ → out-of-line-lts.Claims
-out-of-line-calls t = (number-at-reads.Asked, number-at-reads.Learnt, vector-opened-reads.Asked, vector-opened-reads.Learnt, object-below t, object.Post, passed-on-reads.Asked, passed-on-reads.Learnt, box-opened-reads.Asked, box-opened-reads.Learnt, single-below t, single.Post, table-opened-reads.Asked, table-opened-reads.Learnt, least-reads.Asked, least-reads.Learnt, envelopes-below t, envelopes.Post, union-member-reads.Asked, union-member-reads.Learnt, content-below t, content.Post)
+out-of-line-calls t = (number-at-reads.Asked, number-at-reads.Learnt, vector-opened-reads.Asked, vector-opened-reads.Learnt, object-below t, object.Post, passed-on-reads.Asked, passed-on-reads.Learnt, box-opened-reads.Asked, box-opened-reads.Learnt, single-below t, single.Post, table-opened-reads.Asked, table-opened-reads.Learnt, rest-from-reads.Asked, rest-from-reads.Learnt, envelopes-below t, envelopes.Post, union-member-reads.Asked, union-member-reads.Learnt, content-below t, content.Post)
 
 out-of-line-vector-opened-requires : (t : ℕ) → out-of-line-lts.Need-vector-opened-requires (out-of-line-calls t) (out-of-line-at t) out-of-line.Post
 out-of-line-vector-opened-requires t c κs =
@@ -839,24 +829,24 @@ out-of-line-table-opened-requires t c κs =
     let start = at-number-at .before .before .before .before .before in
     let a = table-record _ _ (at-number-at .number-at .ensures) (start .pre .1 .2) (at-if3 .if3 .taken) in (ask-stands a, omega (arith, a .inside, a .free))
 
-out-of-line-sub-least : (t : ℕ) → out-of-line-lts.Need-sub-least (out-of-line-calls t) (out-of-line-at t) out-of-line.Post
-out-of-line-sub-least t c =
-    let at-x3 = c .before .before in
+out-of-line-rest-from-requires : (t : ℕ) → out-of-line-lts.Need-rest-from-requires (out-of-line-calls t) (out-of-line-at t) out-of-line.Post
+out-of-line-rest-from-requires t c κs =
+    let at-x3 = c .before in
     let at-table-opened = at-x3 .before .before .before .before in
     let at-if3 = at-table-opened .before .before in
     let at-number-at = at-if3 .before .before .before .before .before .before in
     let start = at-number-at .before .before .before .before .before in
-    omega (arith, table-claimed _ _ _ _ _ _ _ _ _ _ (at-number-at .number-at .ensures) (start .pre .1 .2) (at-if3 .if3 .taken) (start .pre .1 .0) (at-table-opened .table-opened .ensures .0) (at-x3 .x3 .given .1) .within)
+    table-claimed _ _ _ _ _ _ _ _ _ _ (at-number-at .number-at .ensures) (start .pre .1 .2) (at-if3 .if3 .taken) (start .pre .1 .0) (at-table-opened .table-opened .ensures .0) (at-x3 .x3 .given .1) .within
 
 out-of-line-sub-envelopes-2 : (t : ℕ) → out-of-line-lts.Need-sub-envelopes-2 (out-of-line-calls t) (out-of-line-at t) out-of-line.Post
 out-of-line-sub-envelopes-2 t c =
-    let at-x3 = c .before .before .before .before in
+    let at-x3 = c .before .before .before in
     let at-table-opened = at-x3 .before .before .before .before in
     omega (arith, level-left _ _ (at-table-opened .table-opened .ensures .1) (at-x3 .x3 .given .1))
 
 out-of-line-envelopes-requires : (t : ℕ) → out-of-line-lts.Need-envelopes-requires (out-of-line-calls t) (out-of-line-at t) out-of-line.Post
 out-of-line-envelopes-requires t c κs =
-    let at-x3 = c .before .before .before .before in
+    let at-x3 = c .before .before .before in
     let at-table-opened = at-x3 .before .before .before .before in
     let at-if3 = at-table-opened .before .before in
     let at-number-at = at-if3 .before .before .before .before .before .before in
@@ -884,13 +874,13 @@ out-of-line-returns-8 t c =
 out-of-line-returns-9 : (t : ℕ) → out-of-line-lts.Need-returns-9 (out-of-line-calls t) (out-of-line-at t) out-of-line.Post
 out-of-line-returns-9 t c =
     let at-envelopes = c .before .before .before in
-    let at-least = at-envelopes .before .before in
-    let at-x3 = at-least .before .before .before in
+    let at-rest-from = at-envelopes .before .before in
+    let at-x3 = at-rest-from .before .before in
     let at-table-opened = at-x3 .before .before .before .before in
     let at-if3 = at-table-opened .before .before in
     let at-number-at = at-if3 .before .before .before .before .before .before in
     let start = at-number-at .before .before .before .before .before in
-    rw (c .passed-on3 .ensures) (table-done _ _ _ _ _ _ _ _ _ _ (at-number-at .number-at .ensures) (start .pre .1 .2) (at-if3 .if3 .taken) (start .pre .1 .0) (at-table-opened .table-opened .ensures .0) (at-x3 .x3 .given .1) _ (at-least .least .ensures) (at-envelopes .envelopes .ensures) refl)
+    rw (c .passed-on3 .ensures) (table-done _ _ _ _ _ _ _ _ _ _ (at-number-at .number-at .ensures) (start .pre .1 .2) (at-if3 .if3 .taken) (start .pre .1 .0) (at-table-opened .table-opened .ensures .0) (at-x3 .x3 .given .1) _ (at-rest-from .rest-from .ensures) (at-envelopes .envelopes .ensures))
 
 out-of-line-union-member-requires : (t : ℕ) → out-of-line-lts.Need-union-member-requires (out-of-line-calls t) (out-of-line-at t) out-of-line.Post
 out-of-line-union-member-requires t c κs =
@@ -921,7 +911,7 @@ out-of-line-content-requires t c κs =
     let at-number-at2 = at-number-at3 .before in
     let at-number-at = at-number-at2 .before in
     let start = at-number-at .before .before .before .before .before in
-    let q = union-else (start .pre .1 .0) (at-number-at .number-at .ensures) (start .pre .1 .1) (at-if1 .if1 .left) (at-if2 .if2 .left) (at-if3 .if3 .left) in let m = union-members (start .pre .1 .0) (at-number-at .number-at .ensures) (at-number-at2 .number-at2 .ensures) (at-number-at3 .number-at3 .ensures) q in let a = union-asks _ _ _ _ _ (start .args .depth) _ _ _ _ (at-number-at .number-at .ensures) (at-number-at2 .number-at2 .ensures) (at-number-at3 .number-at3 .ensures) (at-number-at4 .number-at4 .ensures) q (start .pre .1 .0) (start .pre .1 .2) (at-union-member .union-member .ensures .0) (at-what .what .given .1) in (omega (arith, start .pre .0), (start .pre .1 .0, union-fits _ _ _ _ (start .args .base) (start .args .depth) _ _ _ _ (at-number-at .number-at .ensures) (at-number-at2 .number-at2 .ensures) (at-number-at3 .number-at3 .ensures) (at-number-at4 .number-at4 .ensures) q (start .pre .1 .0) (start .pre .1 .2) (at-union-member .union-member .ensures .0) (at-what .what .given .1) (m .0) (at-union-member .union-member .ensures .1), a .0, a .1))
+    let q = union-else (start .pre .1 .0) (at-number-at .number-at .ensures) (start .pre .1 .1) (at-if1 .if1 .left) (at-if2 .if2 .left) (at-if3 .if3 .left) in let m = union-members (start .pre .1 .0) (at-number-at .number-at .ensures) (at-number-at2 .number-at2 .ensures) (at-number-at3 .number-at3 .ensures) q in let a = union-asks _ _ _ _ _ (start .args .depth) _ _ _ _ (at-number-at .number-at .ensures) (at-number-at2 .number-at2 .ensures) (at-number-at3 .number-at3 .ensures) (at-number-at4 .number-at4 .ensures) q (start .pre .1 .0) (start .pre .1 .2) (at-union-member .union-member .ensures .0) (at-what .what .given .1) in (omega (arith, start .pre .0), (content-ready _ (start .pre .1 .0) (union-fits _ _ _ _ (start .args .base) (start .args .depth) _ _ _ _ (at-number-at .number-at .ensures) (at-number-at2 .number-at2 .ensures) (at-number-at3 .number-at3 .ensures) (at-number-at4 .number-at4 .ensures) q (start .pre .1 .0) (start .pre .1 .2) (at-union-member .union-member .ensures .0) (at-what .what .given .1) (m .0) (at-union-member .union-member .ensures .1)), a .0, a .1))
 
 out-of-line-returns-10 : (t : ℕ) → out-of-line-lts.Need-returns-10 (out-of-line-calls t) (out-of-line-at t) out-of-line.Post
 out-of-line-returns-10 t c =
@@ -969,43 +959,31 @@ out-of-line-returns-12 t c =
 -- ---- single: a claimed object of one value
 
 abbrev single-calls : ℕ → single-lts.Claims
-single-calls t = (least-reads.Asked, least-reads.Learnt, value-below t, value.Post, number-at-reads.Asked, number-at-reads.Learnt, put-zeros-reads.Asked, put-zeros-reads.Learnt, passed-on-reads.Asked, passed-on-reads.Learnt)
+single-calls t = (rest-from-reads.Asked, rest-from-reads.Learnt, value-below t, value.Post, number-at-reads.Asked, number-at-reads.Learnt, fill-up-reads.Asked, fill-up-reads.Learnt, passed-on-reads.Asked, passed-on-reads.Learnt)
 
-single-sub-least : (t : ℕ) → single-lts.Need-sub-least (single-calls t) (single-at t) single.Post
-single-sub-least t c =
-    let start = c .before .before .before .before .before in
-    omega (arith, start .pre .1 .1 .within)
+single-rest-from-requires : (t : ℕ) → single-lts.Need-rest-from-requires (single-calls t) (single-at t) single.Post
+single-rest-from-requires t c κs =
+    let start = c .before .before .before .before in
+    start .pre .1 .1 .within
 
 single-value-requires : (t : ℕ) → single-lts.Need-value-requires (single-calls t) (single-at t) single.Post
 single-value-requires t c κs =
     let start = c .before .before .before .before .before .before .before in
     (omega (arith, start .pre .0), (start .pre .1 .0, object-asks _ _ _ (start .pre .1 .1)))
 
-single-sub-put-zeros : (t : ℕ) → single-lts.Need-sub-put-zeros (single-calls t) (single-at t) single.Post
-single-sub-put-zeros t c =
-    let start = c .before .before .before .before .before .before .before .before .before .before .before .before .before .before in
-    omega (arith, start .pre .1 .1 .within)
-
-single-add-put-zeros : (t : ℕ) → single-lts.Need-add-put-zeros (single-calls t) (single-at t) single.Post
-single-add-put-zeros t c =
-    let at-number-at = c .before .before in
-    let start = at-number-at .before .before .before .before .before .before .before .before .before .before .before .before in
-    let l = object-length _ _ (start .pre .1 .1) (row-size (start .pre .1 .0) _ (start .pre .1 .0 .in-use) (at-number-at .number-at .ensures)) in record { fits = omega (arith, l .0, l .2) }
-
-single-put-zeros-requires : (t : ℕ) → single-lts.Need-put-zeros-requires (single-calls t) (single-at t) single.Post
-single-put-zeros-requires t c κs =
-    let at-number-at = c .before .before in
-    let start = at-number-at .before .before .before .before .before .before .before .before .before .before .before .before in
-    let l = object-length _ _ (start .pre .1 .1) (row-size (start .pre .1 .0) _ (start .pre .1 .0 .in-use) (at-number-at .number-at .ensures)) in omega (arith, l .0, l .2)
+single-fill-up-requires : (t : ℕ) → single-lts.Need-fill-up-requires (single-calls t) (single-at t) single.Post
+single-fill-up-requires t c κs =
+    let start = c .before .before .before .before .before .before .before .before .before .before .before .before in
+    object-counted _ _ (start .pre .1 .1) (row-size (start .pre .1 .0) _ (start .pre .1 .0 .in-use) (c .number-at .ensures))
 
 single-returns : (t : ℕ) → single-lts.Need-returns (single-calls t) (single-at t) single.Post
 single-returns t c =
-    let at-put-zeros = c .before .before .before in
-    let at-number-at = at-put-zeros .before .before .before in
+    let at-fill-up = c .before .before .before in
+    let at-number-at = at-fill-up .before in
     let at-value = at-number-at .before .before .before .before in
-    let at-least = at-value .before .before in
-    let start = at-least .before .before .before .before .before .before in
-    object-written _ (start .args .out .now) _ _ _ _ (writeRow (typeTable (start .args .rows .now) (start .args .members .now)) (start .args .depth) (start .args .row)) (start .pre .1 .1) (at-value .value .ensures) (at-least .least .ensures) (row-size (start .pre .1 .0) _ (start .pre .1 .0 .in-use) (at-number-at .number-at .ensures)) (at-put-zeros .put-zeros .ensures) (c .passed-on .ensures)
+    let at-rest-from = at-value .before .before .before in
+    let start = at-rest-from .before .before .before .before .before in
+    object-written _ (start .args .out .now) _ _ _ _ (writeRow (typeTable (start .args .rows .now) (start .args .members .now)) (start .args .depth) (start .args .row)) (start .pre .1 .1) (at-value .value .ensures) (at-rest-from .rest-from .ensures) (row-size (start .pre .1 .0) _ (start .pre .1 .0 .in-use) (at-number-at .number-at .ensures)) (at-fill-up .fill-up .ensures) (c .passed-on .ensures)
 
 -- ---- value: a value of any kind
 
@@ -1150,9 +1128,9 @@ pub +composite+content+elements+envelopes+object+out-of-line+single+value-spec :
     (λ t. object-lts.spec (object-calls t)
     (object-at t)
     object.Post
-    (object-sub-least t) (λ c κs. search needs) (λ c. search needs) (λ c. search needs) (λ c. search needs)
-    (object-elements-requires t) (λ c κs. search needs) (λ c. search needs) (object-mul-length t) (object-sub-put-zeros t)
-    (object-add-put-zeros t) (λ c. search needs) (object-put-zeros-requires t) (λ c. search needs) (object-returns t))
+    (object-rest-from-requires t) (λ c. search needs) (λ c. search needs) (λ c. search needs) (object-elements-requires t)
+    (λ c κs. search needs) (λ c. search needs) (object-mul-fill-up t) (object-fill-up-requires t) (λ c. search needs)
+    (object-returns t))
     (λ t. out-of-line-lts.spec (out-of-line-calls t)
     (out-of-line-at t)
     out-of-line.Post
@@ -1165,8 +1143,7 @@ pub +composite+content+elements+envelopes+object+out-of-line+single+value-spec :
     (λ c. search needs) (λ c. search needs) (out-of-line-sub-single t) (out-of-line-single-requires t) (λ c κs. search needs)
     (λ c. search needs) (out-of-line-returns-4 t) (λ c. search needs) (out-of-line-returns-5 t) (λ c. search needs)
     (out-of-line-returns-6 t) (out-of-line-table-opened-requires t) (λ c. search needs) (λ c. search needs) (λ c. search needs)
-    (out-of-line-sub-least t) (λ c κs. search needs) (λ c. search needs) (λ c. search needs) (λ c. search needs)
-    (out-of-line-sub-envelopes-2 t) (out-of-line-envelopes-requires t) (λ c κs. search needs) (λ c. search needs)
+    (out-of-line-rest-from-requires t) (λ c. search needs) (λ c. search needs) (λ c. search needs) (out-of-line-sub-envelopes-2 t) (out-of-line-envelopes-requires t) (λ c κs. search needs) (λ c. search needs)
     (out-of-line-returns-7 t) (λ c. search needs) (out-of-line-returns-8 t) (λ c. search needs) (out-of-line-returns-9 t)
     (λ c. search needs) (out-of-line-union-member-requires t) (λ c. search needs) (λ c. search needs) (λ c. search needs)
     (out-of-line-add-content t) (out-of-line-content-requires t) (λ c κs. search needs) (λ c. search needs)
@@ -1174,9 +1151,9 @@ pub +composite+content+elements+envelopes+object+out-of-line+single+value-spec :
     (λ t. single-lts.spec (single-calls t)
     (single-at t)
     single.Post
-    (single-sub-least t) (λ c κs. search needs) (λ c. search needs) (λ c. search needs) (λ c. search needs)
-    (single-value-requires t) (λ c κs. search needs) (λ c. search needs) (single-sub-put-zeros t) (single-add-put-zeros t)
-    (λ c. search needs) (single-put-zeros-requires t) (λ c κs. search needs) (λ c. search needs) (single-returns t))
+    (single-rest-from-requires t) (λ c. search needs) (λ c. search needs) (λ c. search needs) (single-value-requires t)
+    (λ c κs. search needs) (λ c. search needs) (single-fill-up-requires t) (λ c κs. search needs) (λ c. search needs)
+    (single-returns t))
     λ t. value-lts.spec (value-calls t)
     (value-at t)
     value.Post
