@@ -3,7 +3,7 @@ mod lines;
 
 ghost use mathlib.Core.Path.{_≡_};
 ghost use Prim.Native.Nat.{_+_, _*_, _/_, _≤_};
-ghost use lib.ListN.{length, take};
+ghost use lib.ListN.{length};
 ghost use lib.Seq.{sets};
 ghost use Rattle.rules.specs.Refusals.{placeNumber};
 ghost use Rattle.listing.specs.Lines.{largest, Puts};
@@ -106,16 +106,5 @@ pub fn listing(message: &[u8], out: &mut [u8]) -> usize
                 &values[..value_numbers],
             )
         }
-    }
-}
-
-// The first bytes of an output, so many or all there are: what a listing takes up of it.
-pub fn first(out: &[u8], count: usize) -> &[u8]
-    ensures { λ r. ⌜ now r ≡ take count (now (out .entry)) ⌝ }
-{
-    if count <= out.len() {
-        &out[..count]
-    } else {
-        out
     }
 }
