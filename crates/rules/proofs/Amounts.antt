@@ -59,7 +59,7 @@ objects-append : (s t : List Event) → length (objectList (s ++ t)) ≡ length 
 unfolding objectList
 objects-append [] t = omega arith
 objects-append (claimed kind row offset size ∷ s) t = omega (arith, objects-append s t)
-objects-append (presentHandle ∷ s) t = objects-append s t
+objects-append (presentHandle at ∷ s) t = objects-append s t
 objects-append (unknownContent bytes handles ∷ s) t = objects-append s t
 
 -- What came before a result gives its own numbers.
@@ -242,7 +242,7 @@ module _ (m : Message) where
   gives-after-handle : (at v : ℕ) → Gives 0 (W.afterHandle m at v)
   unfolding objectList
   gives-after-handle at zero = gives-nothing
-  gives-after-handle at (suc v) = gives-handles at presentHandle refl
+  gives-after-handle at (suc v) = gives-handles at (presentHandle at) refl
 
   module _ {d : D.Deeper} (deep : Deep d) where
     gives-after-vector : (row element at v : ℕ) → Gives 4 (W.afterVector m d row element at v)

@@ -52,12 +52,12 @@ module _ {t : TypeTable} {sizes alignments : List ℕ} {depth row payload : ℕ}
 
 module _ (t : TypeTable) (bytes : List ℕ) (handles depth row at : ℕ) (v o o′ : List ℕ) (c : Cursor) (what : Ordinal) {sizes alignments : List ℕ} {payload size : ℕ}
     (ready : Ready t sizes alignments depth row) (fits : OrdinalFits t what) (is : what ≡ Known payload) (kept : size ≡ getD sizes payload 0)
-    (opened : Opened) (opens : KnownOpens bytes handles depth o o′ at c payload size opened) where
+    (ask : Ask (length bytes) handles 7 at c) (opened : Opened) (opens : KnownOpens bytes depth o o′ at c payload size opened) where
   opening : {r : Opened} → opened ≡ r
       → Opens (length bytes) handles 7 v v o o′ c
       (contentOfEightBytes (message t bytes handles) (W.levels (message t bytes handles) depth) row (known payload) at (c .next) (c .handles))
       (λ x. size) (payloadOf (message t bytes handles) depth payload size at (c .next) (c .handles)) r
-  opening e = rw e at (opens t v row (sized what ready fits is kept))
+  opening e = rw e at (opens t v handles row (sized what ready fits is kept) ask)
 
   pub content-closed : {d : Cursor} → opened ≡ Closed d → ContentDid t bytes handles depth v v o o′ at c row what (On d)
   content-closed e = rw is (opening e)

@@ -53,7 +53,8 @@ module _ (t : TypeTable) (row : ℕ) {k total handles at : ℕ} {c : Cursor} (e 
   pub union-record : t .edition ≡ eightByteEnvelopes → k ≡ 10 → Ask total handles 16 at c
   union-record edition q = rw (size-union t row edition (sym e ∙ q)) at a
 
-module _ (t : TypeTable) (bytes : List ℕ) (handles depth row at : ℕ) (v v′ o o′ : List ℕ) (c : Cursor) (r : Opened) {k : ℕ} (e : k ≡ kindAt t row) where
+module _ (t : TypeTable) (bytes : List ℕ) (handles depth row at : ℕ) (v v′ o o′ : List ℕ) (c : Cursor) (r : Opened) {k : ℕ} (e : k ≡ kindAt t row)
+    (ask : Ask (length bytes) handles (sizeOf t row) at c) where
   abbrev RowOpens : (need : Opening → ℕ) (left : Opening → Decoded) → Opened → Type 0
   RowOpens need left r =
       Opens (length bytes) handles (sizeOf t row) v v′ o o′ c (walkRow t bytes handles depth row at (c .next) (c .handles)) need left r
@@ -61,7 +62,7 @@ module _ (t : TypeTable) (bytes : List ℕ) (handles depth row at : ℕ) (v v′
   -- ---- a vector
 
   module _ {a b form size : ℕ} (q : k ≡ 5) (f : a ≡ aAt t row) (g : b ≡ bAt t row) (h : form ≡ cAt t row)
-      {sizes alignments : List ℕ} (ready : Ready t sizes alignments depth row) (kept : size ≡ getD sizes a 0) (p : CountedOpens bytes handles depth v v′ o o′ at c row size b form r) where
+      {sizes alignments : List ℕ} (ready : Ready t sizes alignments depth row) (kept : size ≡ getD sizes a 0) (p : CountedOpens bytes depth v v′ o o′ at c row size b form r) where
     element-size : sizeOf t a ≡ size
     element-size = row-size ready a (vector-in-use ready e f q) kept
 
@@ -70,7 +71,7 @@ module _ (t : TypeTable) (bytes : List ℕ) (handles depth row at : ℕ) (v v′
         let m = message t bytes handles in
         let kind : kindAt t row ≡ 5 = sym e ∙ q in
         rw (decode-vector m (W.levels m depth) row kind, size-vector t row kind, ← f, ← g, ← h)
-        (vector-opens bytes handles depth v v′ o o′ at c row (sizeOf t a) b form r (rw (← element-size) at p) t a refl)
+        (vector-opens bytes depth v v′ o o′ at c row (sizeOf t a) b form r (rw (← element-size) at p) t handles a refl (vector-record t row e ask q))
 
     vector-row : {is : Opened} → r ≡ is
         → RowOpens (λ x. x .count * sizeOf t a) (elementsOf (message t bytes handles) depth (sizeOf t a) a) is
@@ -92,7 +93,7 @@ module _ (t : TypeTable) (bytes : List ℕ) (handles depth row at : ℕ) (v v′
   -- ---- a box
 
   module _ {a size : ℕ} (q : k ≡ 8) (f : a ≡ aAt t row) {sizes alignments : List ℕ} (ready : Ready t sizes alignments depth row) (kept : size ≡ getD sizes a 0)
-      (p : BoxOpens bytes handles depth v v′ o o′ at c a size r) where
+      (p : BoxOpens bytes depth v v′ o o′ at c a size r) where
     boxed-size : sizeOf t a ≡ size
     boxed-size = row-size ready a (box-in-use ready e f q) kept
 
@@ -100,7 +101,7 @@ module _ (t : TypeTable) (bytes : List ℕ) (handles depth row at : ℕ) (v v′
     box-whole =
         let m = message t bytes handles in
         let kind : kindAt t row ≡ 8 = sym e ∙ q in
-        rw (decode-box m (W.levels m depth) row kind, size-box t row kind, ← f, boxed-size) (p t boxed-size)
+        rw (decode-box m (W.levels m depth) row kind, size-box t row kind, ← f, boxed-size) (p t handles boxed-size (box-record t row e ask q))
 
     box-row : {is : Opened} → r ≡ is → RowOpens (λ x. sizeOf t a) (valueOf (message t bytes handles) depth a) is
     box-row z = rw z at box-whole
@@ -120,12 +121,12 @@ module _ (t : TypeTable) (bytes : List ℕ) (handles depth row at : ℕ) (v v′
 
   -- ---- a table
 
-  module _ (q : k ≡ 9) {sizes alignments : List ℕ} (ready : Ready t sizes alignments depth row) (p : TableOpens bytes handles depth v v′ o o′ at c row r) where
+  module _ (q : k ≡ 9) {sizes alignments : List ℕ} (ready : Ready t sizes alignments depth row) (p : TableOpens bytes depth v v′ o o′ at c row r) where
     table-whole : RowOpens (λ x. x .count * 8) (λ x. D.elements 8 (envelopeAt t bytes handles (depth - 1) row (x .count)) 1 (x .count) (x .start) (x .cursor .next) (x .cursor .handles)) r
     table-whole =
         let m = message t bytes handles in
         let kind : kindAt t row ≡ 9 = sym e ∙ q in
-        rw (decode-table m (W.levels m depth) row kind, size-table t row kind) (p t (contentOf t (aAt t row) (bAt t row)) (ready .edition))
+        rw (decode-table m (W.levels m depth) row kind, size-table t row kind) (p t handles (contentOf t (aAt t row) (bAt t row)) (ready .edition) (table-record t row e ask q))
 
     table-row : {is : Opened} → r ≡ is
         → RowOpens (λ x. x .count * 8) (λ x. D.elements 8 (envelopeAt t bytes handles (depth - 1) row (x .count)) 1 (x .count) (x .start) (x .cursor .next) (x .cursor .handles)) is
@@ -148,13 +149,14 @@ module _ (t : TypeTable) (bytes : List ℕ) (handles depth row at : ℕ) (v v′
 
 module _ (t : TypeTable) (bytes : List ℕ) (handles depth row at : ℕ) (v v′ o : List ℕ) (c : Cursor) (r : Member) {k a b form : ℕ}
     (e : k ≡ kindAt t row) (f : a ≡ aAt t row) (g : b ≡ bAt t row) (h : form ≡ cAt t row) (q : k ≡ 10)
-    {sizes alignments : List ℕ} (ready : Ready t sizes alignments depth row) (p : UnionOpens bytes handles depth v v′ at c (t .members) row a b form r) where
+    {sizes alignments : List ℕ} (ready : Ready t sizes alignments depth row) (ask : Ask (length bytes) handles (sizeOf t row) at c)
+    (p : UnionOpens (t .members) bytes v v′ at c a b form r) where
   union-whole : OpensMember (length bytes) handles (sizeOf t row) v v′ o o c (walkRow t bytes handles depth row at (c .next) (c .handles))
       (λ what d. contentOfEightBytes (message t bytes handles) (W.levels (message t bytes handles) depth) row (ordinalIs what) (at + 8) (d .next) (d .handles)) r
   union-whole =
       let m = message t bytes handles in
       let kind : kindAt t row ≡ 10 = sym e ∙ q in
-      rw (decode-union m (W.levels m depth) row kind, size-union t row (ready .edition) kind, ← f, ← g, ← h) (p t o (ready .edition) refl)
+      rw (decode-union m (W.levels m depth) row kind, size-union t row (ready .edition) kind, ← f, ← g, ← h) (p t o handles depth row (ready .edition) refl (union-record t row e ask (ready .edition) q))
 
   union-row : {is : Member} → r ≡ is
       → OpensMember (length bytes) handles (sizeOf t row) v v′ o o c (walkRow t bytes handles depth row at (c .next) (c .handles))
@@ -167,9 +169,10 @@ module _ (t : TypeTable) (bytes : List ℕ) (handles depth row at : ℕ) (v v′
   pub union-bad : {f : Fault} → r ≡ Bad f → ValueDid t bytes handles depth v v′ o o at c row (Refused f)
   union-bad z = union-row z
 
-  pub union-asks : {what : Ordinal} {d : Cursor} → r ≡ Some what d → Ask (length bytes) handles 16 at c → Ask (length bytes) handles 7 (at + 8) d
-  union-asks z a =
+  pub union-asks : {what : Ordinal} {d : Cursor} → r ≡ Some what d → Ask (length bytes) handles 7 (at + 8) d
+  union-asks z =
       let u = union-row z in
+      let a = union-record t row e ask (ready .edition) q in
       record {
         short = a .short;
         few = a .few;

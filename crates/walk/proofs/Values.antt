@@ -7,12 +7,13 @@ use native.Mathlib.Omega.{arith}
 use lib.Dec.{eqb}
 use lib.ListN.{length}
 use Rattle.rules.specs.TypeTable.{TypeTable, kindAt, aAt, bAt, cAt}
+use Rattle.rules.specs.Sizes.{sizeOf}
 use Rattle.rules.specs.Envelope.{decodeWord}
 use Rattle.rules.specs.Walk as W
 use Rattle.layout.proofs.ByKind.{size-bool, size-number, size-handle, size-array, size-string}
 use Rattle.walk_leaves.specs.declared.cursor.Cursor.{Cursor}
 use Rattle.walk_leaves.specs.declared.cursor.Walked.{Walked}
-use Rattle.walk_leaves.specs.Doing.{message}
+use Rattle.walk_leaves.specs.Doing.{message, Ask}
 use Rattle.walk_leaves.specs.Parts.{boolAt, handleAt, DidValues, DidHandles}
 use Rattle.walk_records.specs.Contracts.{StringDid}
 use Rattle.walk.specs.Walking.{ValueDid, ElementsDid}
@@ -47,8 +48,8 @@ module _ (t : TypeTable) (bytes : List ℕ) (handles depth row at : ℕ) (v v′
       let below : aAt t row < row = rw f at h in
       rw (decode-array (message t bytes handles) (W.levels (message t bytes handles) depth) row kind below, size-array t row kind below, ← f, ← g) d
 
-  pub value-string : {b f : ℕ} → k ≡ 6 → b ≡ bAt t row → f ≡ cAt t row → StringDid bytes handles depth v v′ o o′ at c row b f r
+  pub value-string : {b f : ℕ} → k ≡ 6 → b ≡ bAt t row → f ≡ cAt t row → Ask (length bytes) handles (sizeOf t row) at c → StringDid bytes depth v v′ o o′ at c row b f r
       → ValueDid t bytes handles depth v v′ o o′ at c row r
-  value-string q g h d =
+  value-string q g h ask d =
       let kind : kindAt t row ≡ 6 = sym e ∙ q in
-      rw (decode-string (message t bytes handles) (W.levels (message t bytes handles) depth) row kind, size-string t row kind, ← g, ← h) (d t)
+      rw (decode-string (message t bytes handles) (W.levels (message t bytes handles) depth) row kind, size-string t row kind, ← g, ← h) (d t handles (rw (size-string t row kind) at ask))

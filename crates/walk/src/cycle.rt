@@ -104,18 +104,7 @@ pub fn value(
     if kind == 6 {
         let largest = words::number_at(rows, row * 4 + 2);
         let optional = words::number_at(rows, row * 4 + 3);
-        return string(
-            bytes,
-            held,
-            values,
-            objects,
-            depth,
-            row,
-            largest,
-            optional,
-            at,
-            c,
-        );
+        return string(bytes, values, objects, depth, row, largest, optional, at, c);
     }
     out_of_line(
         rows,
@@ -358,19 +347,7 @@ fn out_of_line(
     let form = words::number_at(rows, row * 4 + 3);
     if kind == 5 {
         let size = words::number_at(sizes, a) as usize;
-        return match vector_opened(
-            bytes,
-            held,
-            values,
-            objects,
-            depth,
-            row,
-            size,
-            b,
-            form,
-            at,
-            c,
-        ) {
+        return match vector_opened(bytes, values, objects, depth, row, size, b, form, at, c) {
             Opened::Closed(d) => Walked::On(d),
             Opened::Refused(f) => Walked::Refused(f),
             Opened::Open(x) => passed_on(elements(
@@ -392,7 +369,7 @@ fn out_of_line(
     }
     if kind == 8 {
         let size = words::number_at(sizes, a) as usize;
-        return match box_opened(bytes, held, values, objects, depth, a, size, at, c) {
+        return match box_opened(bytes, values, objects, depth, a, size, at, c) {
             Opened::Closed(d) => Walked::On(d),
             Opened::Refused(f) => Walked::Refused(f),
             Opened::Open(x) => passed_on(value(
@@ -415,7 +392,7 @@ fn out_of_line(
         };
     }
     if kind == 9 {
-        return match table_opened(bytes, held, values, objects, depth, row, at, c) {
+        return match table_opened(bytes, values, objects, depth, row, at, c) {
             Opened::Closed(d) => Walked::On(d),
             Opened::Refused(f) => Walked::Refused(f),
             Opened::Open(x) => passed_on(envelopes(
@@ -435,19 +412,7 @@ fn out_of_line(
             )),
         };
     }
-    match union_member(
-        members,
-        bytes,
-        held,
-        values,
-        depth,
-        row,
-        a,
-        b as usize,
-        form,
-        at,
-        c,
-    ) {
+    match union_member(members, bytes, values, a, b as usize, form, at, c) {
         Member::None(d) => Walked::On(d),
         Member::Bad(f) => Walked::Refused(f),
         Member::Some(what, d) => passed_on(content(
@@ -552,7 +517,7 @@ fn content(
         Ordinal::Unknown => unknown_content(bytes, held, values, objects, depth, row, at, c),
         Ordinal::Known(payload) => {
             let size = words::number_at(sizes, payload) as usize;
-            match known_opened(bytes, held, objects, depth, payload, size, at, c) {
+            match known_opened(bytes, objects, depth, payload, size, at, c) {
                 Opened::Closed(d) => Walked::On(d),
                 Opened::Refused(f) => Walked::Refused(f),
                 Opened::Open(x) => {

@@ -34,7 +34,7 @@ use Rattle.walk_leaves.specs.Doing.{message, gaveOne, Ask}
 use Rattle.walk_records.specs.Opening.{countOf, HasCount, afterCount, countedAt}
 use Rattle.walk_records.specs.Contracts.{CountAt, DeeperOpens, CountedOpens, VectorOpens}
 use Rattle.walk_leaves.proofs.Steps.{did-stop, did-one}
-use Rattle.walk_records.proofs.Openings.{record-got, record-wrong, record-same, deeper-anywhere, opens-put, opens-same}
+use Rattle.walk_records.proofs.Openings.{record-got, record-wrong, record-same, deeper-anywhere, ask-gave, opens-put, opens-same}
 
 -- ---- the record, of which `count` and `says` were loaded
 
@@ -96,41 +96,41 @@ module _ (bytes : List ℕ) (optional largest at : ℕ) (k : Count) (reads : Cou
 
 -- ---- what it leads to
 
-module _ (bytes : List ℕ) (handles depth : ℕ) (values objects : List ℕ) (at : ℕ) (c : Cursor) (row size largest optional : ℕ) (k : Count) (reads : CountAt bytes optional largest at k) where
-  read : (t : TypeTable) {is : Count} → k ≡ is → readCount (message t bytes handles) (eqb optional 1) largest at ≡ countOf is
-  read t h = rw h at (sym (reads t handles))
+module _ (bytes : List ℕ) (depth : ℕ) (values objects : List ℕ) (at : ℕ) (c : Cursor) (row size largest optional : ℕ) (k : Count) (reads : CountAt bytes optional largest at k) where
+  read : (t : TypeTable) (handles : ℕ) {is : Count} → k ≡ is → readCount (message t bytes handles) (eqb optional 1) largest at ≡ countOf is
+  read t handles h = rw h at (sym (reads t handles))
 
-  pub counted-closed : Ask (length bytes) handles 16 at c → {values′ : List ℕ} {d : Cursor} → k ≡ Absent → values′ ≡ set values (c .values) 0 → d ≡ gaveOne c
-      → CountedOpens bytes handles depth values values′ objects objects at c row size largest optional (Closed d)
-  counted-closed ask is e g t fields =
-      rw (e, g, record-got 16 _ _ at (c .next) (c .handles) (read t is)) (did-one 0 (omega arith) (ask .free) (ask .held))
+  pub counted-closed : {values′ : List ℕ} {d : Cursor} → k ≡ Absent → values′ ≡ set values (c .values) 0 → d ≡ gaveOne c
+      → CountedOpens bytes depth values values′ objects objects at c row size largest optional (Closed d)
+  counted-closed is e g t handles fields ask =
+      rw (e, g, record-got 16 _ _ at (c .next) (c .handles) (read t handles is)) (did-one 0 (omega arith) (ask .free) (ask .held))
 
-  pub counted-refused : {f : Fault} → k ≡ Wrong f → CountedOpens bytes handles depth values values objects objects at c row size largest optional (Refused f)
-  counted-refused is t fields = rw (record-wrong 16 _ _ at (c .next) (c .handles) (read t is)) did-stop
+  pub counted-refused : {f : Fault} → k ≡ Wrong f → CountedOpens bytes depth values values objects objects at c row size largest optional (Refused f)
+  counted-refused is t handles fields ask = rw (record-wrong 16 _ _ at (c .next) (c .handles) (read t handles is)) did-stop
 
-  counted-whole : (count : ℕ) (t : TypeTable) (fields : (count : ℕ) → (ℕ → Decoder) → D.Deeper → Decoder) → k ≡ Present count
+  counted-whole : (count : ℕ) (t : TypeTable) (handles : ℕ) (fields : (count : ℕ) → (ℕ → Decoder) → D.Deeper → Decoder) → k ≡ Present count
       → countedAt (message t bytes handles) depth row size largest (eqb optional 1) fields at (c .next) (c .handles)
       ≡ D.after ((count + 1) ∷ []) [] (D.oneDeeper (W.levels (message t bytes handles) depth) at
       (λ deep below. D.claim (message t bytes handles) vectorObject row (count * size) (fields count deep below)) at (c .next) (c .handles))
-  counted-whole count t fields is =
+  counted-whole count t handles fields is =
       let m = message t bytes handles in
-      record-got 16 _ _ at (c .next) (c .handles) (read t is)
+      record-got 16 _ _ at (c .next) (c .handles) (read t handles is)
       ∙ rw (add-one, deeper-anywhere m vectorObject row (count * size) (W.levels m depth) at (fields count) (at + 16) at)
 
   pub counted-opened : (count : ℕ) {values′ : List ℕ} (objects′ : List ℕ) {d : Cursor} (r : Opened) → k ≡ Present count → values′ ≡ set values (c .values) (count + 1) → d ≡ gaveOne c
-      → DeeperOpens bytes handles depth objects objects′ at d vectorObject row (count * size) r → HasCount count r
-      → CountedOpens bytes handles depth values values′ objects objects′ at c row size largest optional r
-  counted-opened count objects′ r is e g opens has t fields =
+      → DeeperOpens bytes depth objects objects′ at d vectorObject row (count * size) r → HasCount count r
+      → CountedOpens bytes depth values values′ objects objects′ at c row size largest optional r
+  counted-opened count objects′ r is e g opens has t handles fields ask =
       let given = set values (c .values) (count + 1) in
-      rw (e, counted-whole count t fields is)
+      rw (e, counted-whole count t handles fields is)
       (opens-same (length bytes) handles values given objects objects′ c _ 16 count (λ x h. rw h) (λ x h. rw h) r has
-      (opens-put (length bytes) handles values given objects objects′ c _ 4 16 (count + 1) _ _ r (omega arith) (rw g at (opens t given (fields count)))))
+      (opens-put (length bytes) handles values given objects objects′ c _ 4 16 (count + 1) _ _ r (omega arith) (rw g at (opens t given handles (fields count) (ask-gave 16 ask (omega arith) g)))))
 
 -- What lies in the object, once it is open.
-pub counted-ask : (bytes : List ℕ) (handles depth : ℕ) (values values′ objects objects′ : List ℕ) (at : ℕ) (c : Cursor) (row size largest optional : ℕ) (r : Opened)
-    → CountedOpens bytes handles depth values values′ objects objects′ at c row size largest optional r → {x : Opening} → r ≡ Open x
+pub counted-ask : (bytes : List ℕ) (depth : ℕ) (values values′ objects objects′ : List ℕ) (at : ℕ) (c : Cursor) (row size largest optional : ℕ) (r : Opened)
+    → CountedOpens bytes depth values values′ objects objects′ at c row size largest optional r → {handles : ℕ} → Ask (length bytes) handles 16 at c → {x : Opening} → r ≡ Open x
     → Ask (length bytes) handles (x .count * size) (x .start) (x .cursor)
-counted-ask bytes handles depth values values′ objects objects′ at c row size largest optional r opens h = (rw h at (opens someTable (λ count rows below. D.nothing))) .0
+counted-ask bytes depth values values′ objects objects′ at c row size largest optional r opens {handles} ask h = (rw h at (opens someTable handles (λ count rows below. D.nothing) ask)) .0
 
 -- ---- a vector's elements
 
@@ -139,11 +139,11 @@ after-vector : (m : Message) (depth row element size at p n u v : ℕ) → sizeO
 after-vector m depth row element size at p n u zero e = refl
 after-vector m depth row element size at p n u (suc count) e = rw e
 
-pub vector-opens : (bytes : List ℕ) (handles depth : ℕ) (values values′ objects objects′ : List ℕ) (at : ℕ) (c : Cursor) (row size largest optional : ℕ) (r : Opened)
-    → CountedOpens bytes handles depth values values′ objects objects′ at c row size largest optional r
-    → VectorOpens bytes handles depth values values′ objects objects′ at c row size largest optional r
-vector-opens bytes handles depth values values′ objects objects′ at c row size largest optional r opens t element sized =
+pub vector-opens : (bytes : List ℕ) (depth : ℕ) (values values′ objects objects′ : List ℕ) (at : ℕ) (c : Cursor) (row size largest optional : ℕ) (r : Opened)
+    → CountedOpens bytes depth values values′ objects objects′ at c row size largest optional r
+    → VectorOpens bytes depth values values′ objects objects′ at c row size largest optional r
+vector-opens bytes depth values values′ objects objects′ at c row size largest optional r opens t handles element sized ask =
     let m = message t bytes handles in
     let same = record-same 16 (readCount m (eqb optional 1) largest) (W.afterVector m (W.levels m depth) row element) at (c .next) (c .handles) _
     (λ v. after-vector m depth row element size at (at + 16) (c .next) (c .handles) v sized) in
-    rw same (opens t (λ count deep below. D.elements size (λ i. deep element) 0 count))
+    rw same (opens t handles (λ count deep below. D.elements size (λ i. deep element) 0 count) ask)

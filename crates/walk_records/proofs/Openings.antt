@@ -25,7 +25,7 @@ use Rattle.walk_records.specs.declared.records.Opened.{Opened}
 use Rattle.walk_records.specs.declared.records.Opened.the-variants.{Closed, Open, Refused}
 use Rattle.walk_leaves.specs.Doing.{message, gaveOne, Did, Ask}
 use Rattle.walk_leaves.specs.Parts.{claimAt, DidObjects}
-use Rattle.walk_records.specs.Opening.{Opens, HasCount}
+use Rattle.walk_records.specs.Opening.{AskBytes, Opens, HasCount}
 use Rattle.walk_records.specs.Contracts.{DeeperOpens}
 use Rattle.walk_records.proofs.Levels.{levels-spent, levels-down}
 use Rattle.walk_records.proofs.Claiming.{claim-then, claim-on, claim-anywhere}
@@ -70,13 +70,13 @@ module _ (m : Message) (kind row size : ℕ) where
 
 -- ---- one level down, and a claim there
 
-module _ (bytes : List ℕ) (handles depth : ℕ) (objects : List ℕ) (at : ℕ) (c : Cursor) (kind row size : ℕ) where
-  pub deeper-spent : {f : Fault} → depth ≡ 0 → f ≡ fault tooDeep (Byte at) → DeeperOpens bytes handles depth objects objects at c kind row size (Refused f)
-  deeper-spent h e t values fields = rw (e, levels-spent (message t bytes handles) depth h) did-stop
+module _ (bytes : List ℕ) (depth : ℕ) (objects : List ℕ) (at : ℕ) (c : Cursor) (kind row size : ℕ) where
+  pub deeper-spent : {f : Fault} → depth ≡ 0 → f ≡ fault tooDeep (Byte at) → DeeperOpens bytes depth objects objects at c kind row size (Refused f)
+  deeper-spent h e t values handles fields ask = rw (e, levels-spent (message t bytes handles) depth h) did-stop
 
-  module _ {objects′ : List ℕ} {w : Walked} (down : depth ≡ 0 → ⊥) (ask : Ask (length bytes) handles 4 at c) (claims : DidObjects bytes objects objects′ 4 0 c w (claimAt kind row size)) where
-    pub deeper-opened : (count : ℕ) {d : Cursor} → w ≡ On d → DeeperOpens bytes handles depth objects objects′ at c kind row size (Open (record { count = count; start = c .next; cursor = d }))
-    deeper-opened count {d} e t values fields =
+  module _ {objects′ : List ℕ} {w : Walked} (down : depth ≡ 0 → ⊥) (claims : DidObjects bytes objects objects′ 4 0 c w (claimAt kind row size)) where
+    pub deeper-opened : (count : ℕ) {d : Cursor} → w ≡ On d → DeeperOpens bytes depth objects objects′ at c kind row size (Open (record { count = count; start = c .next; cursor = d }))
+    deeper-opened count {d} e t values handles fields ask =
         let m = message t bytes handles in
         let did : Did (length bytes) handles 4 values values objects objects′ c (On d) (claimAt kind row size m 0 (c .next) (c .handles)) =
         rw e at (claims t values handles (ask .free) (ask .held))
@@ -97,15 +97,15 @@ module _ (bytes : List ℕ) (handles depth : ℕ) (objects : List ℕ) (at : ℕ
           did .rises,
         )
 
-    pub deeper-refused : {f : Fault} → w ≡ Walked.Refused f → DeeperOpens bytes handles depth objects objects′ at c kind row size (Refused f)
-    deeper-refused e t values fields =
+    pub deeper-refused : {f : Fault} → w ≡ Walked.Refused f → DeeperOpens bytes depth objects objects′ at c kind row size (Refused f)
+    deeper-refused e t values handles fields ask =
         let m = message t bytes handles in
         rw (levels-down m depth down, claim-then m kind row size, claim-anywhere m kind row size at 0) (did-halt 4 _ (rw e at (claims t values handles (ask .free) (ask .held))))
 
 -- What lies in an object that is open, after a claim,
-pub deeper-ask : (bytes : List ℕ) (handles depth : ℕ) (objects objects′ : List ℕ) (at : ℕ) (c : Cursor) (kind row size : ℕ) (r : Opened)
-    → DeeperOpens bytes handles depth objects objects′ at c kind row size r → {x : Opening} → r ≡ Open x → Ask (length bytes) handles size (x .start) (x .cursor)
-deeper-ask bytes handles depth objects objects′ at c kind row size r opens h = (rw h at (opens someTable [] (λ rows below. D.nothing))) .0
+pub deeper-ask : (bytes : List ℕ) (depth : ℕ) (objects objects′ : List ℕ) (at : ℕ) (c : Cursor) (kind row size : ℕ) (r : Opened) → DeeperOpens bytes depth objects objects′ at c kind row size r
+    → {handles : ℕ} → Ask (length bytes) handles 4 at c → {x : Opening} → r ≡ Open x → Ask (length bytes) handles size (x .start) (x .cursor)
+deeper-ask bytes depth objects objects′ at c kind row size r opens {handles} ask h = (rw h at (opens someTable [] handles (λ rows below. D.nothing) ask)) .0
 
 -- and before one, after a value number.
 pub ask-gave : {total handles at : ℕ} (need : ℕ) {c d : Cursor} → Ask total handles need at c → 5 ≤ need → d ≡ gaveOne c → Ask total handles 4 at d
@@ -117,6 +117,20 @@ ask-gave need ask h e = rw e (record {
   held = ask .held;
   small = omega arith;
 })
+
+pub bytes-gave : {total at : ℕ} (need : ℕ) {c d : Cursor} → AskBytes total need at c → 5 ≤ need → d ≡ gaveOne c → AskBytes total 4 at d
+bytes-gave need ask h e = rw e (ask-gave need ask h refl)
+
+-- Of the handles, those that are used are enough.
+pub ask-bytes : {total handles need at : ℕ} {c : Cursor} → Ask total handles need at c → AskBytes total need at c
+ask-bytes ask = record {
+  short = ask .short;
+  few = omega (arith, ask .few, ask .held);
+  inside = ask .inside;
+  free = ask .free;
+  held = omega arith;
+  small = ask .small;
+}
 
 -- ---- an answer that is handed on
 

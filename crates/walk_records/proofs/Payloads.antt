@@ -159,10 +159,12 @@ module _ (t : TypeTable) (bytes values objects : List ℕ) (handles depth row pa
       → Did (length bytes) handles 7 values values objects objects c (Refused f) (knownAt t bytes handles depth row payload at c)
   out-of-line-wrong h k y = rw (out-of-line h, ne-eqb _ _ k, y) did-stop
 
-  pub out-of-line-open : (objects′ : List ℕ) (r : Opened) → 4 < size → form ≡ outOfLine → DeeperOpens bytes handles depth objects objects′ at c payloadObject payload size r
+  pub out-of-line-open : (objects′ : List ℕ) (r : Opened) → 4 < size → form ≡ outOfLine → DeeperOpens bytes depth objects objects′ at c payloadObject payload size r → Ask (length bytes) handles 7 at c
       → Opens (length bytes) handles 7 values values objects objects′ c (knownAt t bytes handles depth row payload at c)
       (λ x. size) (payloadOf (message t bytes handles) depth payload size at (c .next) (c .handles)) r
-  out-of-line-open objects′ r h k p = rw (out-of-line h, eq-eqb _ _ k) (more r (p t values fields))
+  out-of-line-open objects′ r h k p a =
+      rw (out-of-line h, eq-eqb _ _ k)
+      (more r (p t values handles fields (record { short = a .short; few = a .few; inside = omega arith; free = a .free; held = a .held; small = omega arith })))
     where
       fields : (ℕ → Decoder) → D.Deeper → Decoder
       fields F b at′ n u = D.andThen (F payload at′ n u) (λ n′ u′. sealedAt (message t bytes handles) size at (c .next) (c .handles) n′ u′)

@@ -28,7 +28,7 @@ use Rattle.walk_records.specs.declared.records.Opened.{Opened}
 use Rattle.walk_records.specs.declared.records.Opened.the-variants.{Closed, Open}
 use Rattle.walk_leaves.specs.Doing.{message, Did}
 use Rattle.walk_leaves.specs.Parts.{numbersAt, DidValues}
-use Rattle.walk_records.specs.Opening.{afterCount, countedAt, stringAt}
+use Rattle.walk_records.specs.Opening.{AskBytes, afterCount, countedAt, stringAt}
 use Rattle.walk_records.specs.Contracts.{CountedOpens, StringDid}
 use Rattle.walk_leaves.proofs.Steps.{did-more}
 use Rattle.walk_records.proofs.Openings.{record-same}
@@ -70,44 +70,44 @@ string-counted : (m : Message) (depth row largest : ℕ) (optional : Bool) (at n
 string-counted m depth row largest optional at n u =
     record-same 16 (readCount m optional largest) (W.afterString m (W.levels m depth) row) at n u _ (after-string m depth row at (at + 16) n u)
 
-module _ (bytes : List ℕ) (handles depth : ℕ) (values values′ objects objects′ : List ℕ) (at : ℕ) (c : Cursor) (row largest optional : ℕ) (r : Opened)
-    (opens : CountedOpens bytes handles depth values values′ objects objects′ at c row 1 largest optional r) where
-  pub string-closed : {e : Cursor} → r ≡ Closed e → StringDid bytes handles depth values values′ objects objects′ at c row largest optional (On e)
-  string-closed h t =
+module _ (bytes : List ℕ) (depth : ℕ) (values values′ objects objects′ : List ℕ) (at : ℕ) (c : Cursor) (row largest optional : ℕ) (r : Opened)
+    (opens : CountedOpens bytes depth values values′ objects objects′ at c row 1 largest optional r) where
+  pub string-closed : {e : Cursor} → r ≡ Closed e → StringDid bytes depth values values′ objects objects′ at c row largest optional (On e)
+  string-closed h t handles ask =
       let m = message t bytes handles in
-      rw (string-counted m depth row largest (eqb optional 1) at) (rw h at (opens t (textOf m at)))
+      rw (string-counted m depth row largest (eqb optional 1) at) (rw h at (opens t handles (textOf m at) ask))
 
-  pub string-refused : {f : Fault} → r ≡ Opened.Refused f → StringDid bytes handles depth values values′ objects objects′ at c row largest optional (Refused f)
-  string-refused h t =
+  pub string-refused : {f : Fault} → r ≡ Opened.Refused f → StringDid bytes depth values values′ objects objects′ at c row largest optional (Refused f)
+  string-refused h t handles ask =
       let m = message t bytes handles in
-      rw (string-counted m depth row largest (eqb optional 1) at) (rw h at (opens t (textOf m at)))
+      rw (string-counted m depth row largest (eqb optional 1) at) (rw h at (opens t handles (textOf m at) ask))
 
   -- What the text's numbers ask for.
   module _ {x : Opening} (opened : r ≡ Open x) where
-    pub string-inside : x .start + x .count * 1 ≤ 65536
-    string-inside = let ask = counted-ask bytes handles depth values values′ objects objects′ at c row 1 largest optional r opens opened in omega arith
+    pub string-inside : AskBytes (length bytes) 16 at c → x .start + x .count * 1 ≤ 65536
+    string-inside asked = let ask = counted-ask bytes depth values values′ objects objects′ at c row 1 largest optional r opens asked opened in omega arith
 
-    pub string-room : x .cursor .values < 4294967296
-    string-room = let ask = counted-ask bytes handles depth values values′ objects objects′ at c row 1 largest optional r opens opened in omega arith
+    pub string-room : AskBytes (length bytes) 16 at c → x .cursor .values < 4294967296
+    string-room asked = let ask = counted-ask bytes depth values values′ objects objects′ at c row 1 largest optional r opens asked opened in omega arith
 
   module _ {x : Opening} (opened : r ≡ Open x) {values″ : List ℕ} {e : Cursor} (given : DidValues bytes values′ values″ (x .count) (x .start) (x .cursor) (On e) (numbersAt 1 (x .count))) where
     string-judged : (holds : Bool) {text : Bool} → text ≡ isUtf8 (part bytes (x .start) (x .count)) → text ≡ holds
-        → StringDid bytes handles depth values values″ objects objects′ at c row largest optional (judged holds e (fault textNotUtf8 (Byte at)))
+        → StringDid bytes depth values values″ objects objects′ at c row largest optional (judged holds e (fault textNotUtf8 (Byte at)))
     unfolding numbersAt textOf D.checked
-    string-judged holds text h t =
+    string-judged holds text h t handles ask =
         let m = message t bytes handles in
-        let o = rw opened at (opens t (textOf m at)) in
+        let o = rw opened at (opens t handles (textOf m at) ask) in
         let inside : x .start + x .count ≤ length bytes = omega (arith, o .0 .inside) in
         rw (string-counted m depth row largest (eqb optional 1) at)
         (o .1 values″ objects′ _
         (did-more (x .count * 1) (omega arith)
         (did-checked isUtf8 _ holds (numbers-bytes m 0 (x .count) (x .start) _ _ inside) (sym text ∙ h) (given t objects′ handles (o .0 .free) (o .0 .held)))))
 
-    pub string-text : {text : Bool} → text ≡ isUtf8 (part bytes (x .start) (x .count)) → text ≡ true → StringDid bytes handles depth values values″ objects objects′ at c row largest optional (On e)
+    pub string-text : {text : Bool} → text ≡ isUtf8 (part bytes (x .start) (x .count)) → text ≡ true → StringDid bytes depth values values″ objects objects′ at c row largest optional (On e)
     unfolding judged
     string-text = string-judged true
 
     pub string-not-text : {w : Walked} {text : Bool} → text ≡ isUtf8 (part bytes (x .start) (x .count)) → text ≡ false → w ≡ Refused (fault textNotUtf8 (Byte at))
-        → StringDid bytes handles depth values values″ objects objects′ at c row largest optional w
+        → StringDid bytes depth values values″ objects objects′ at c row largest optional w
     unfolding judged
     string-not-text text h y = rw y (string-judged false text h)

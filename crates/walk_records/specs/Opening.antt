@@ -28,6 +28,10 @@ use Rattle.walk_records.specs.declared.envelopes.Member.{Member}
 use Rattle.walk_records.specs.declared.envelopes.Member.the-variants.{None, Some, Bad}
 use Rattle.walk_leaves.specs.Doing.{Rises, Did, Ask, Leads}
 
+-- What a part is asked for that takes no handles: those that are used are enough.
+abbrev pub AskBytes : (total need at : ℕ) (c : Cursor) → Type 0
+AskBytes total need at c = Ask total (c .handles) need at c
+
 -- ---- what the code's enums mean
 
 abbrev pub countOf : Count → ReadRecord

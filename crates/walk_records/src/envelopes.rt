@@ -5,7 +5,7 @@ ghost use lib.ListN.{length};
 ghost use Rattle.walk_leaves.specs.Doing.{Ask};
 ghost use Rattle.rules.specs.Records.{isKnown};
 ghost use Rattle.ordinals.specs.Ordinals.{ordinalIs, Rising};
-ghost use Rattle.walk_records.specs.Opening.{Reaches, handlesSealed};
+ghost use Rattle.walk_records.specs.Opening.{AskBytes, Reaches, handlesSealed};
 ghost use Rattle.walk_leaves.specs.Parts.{DidNeither};
 ghost use Rattle.walk_records.specs.Contracts.{UnionOpens, MemberIs, UnknownDid, UnknownInLineDid, UnknownOutOfLineDid, RawWordsDid, TakenDid, KnownOpens, SealDid};
 use crate::records::Opened;
@@ -32,18 +32,15 @@ pub enum Member {
 pub fn union_member(
     members: &[u32],
     bytes: &[u8],
-    held: usize,
     values: &mut [u64],
-    depth: usize,
-    row: usize,
     first: usize,
     count: usize,
     form: u32,
     at: usize,
     c: Cursor,
 ) -> Member
-    requires { ⌜ Ask (length (now bytes)) held 16 at c × (form ≤ 3) × (first + count ≤ 1024) × Rising (now members) first count ⌝ }
-    ensures { λ r. ⌜ UnionOpens (now (bytes .entry)) held depth (now (values .entry)) (now (values .exit)) at c (now (members .entry)) row first count form r × MemberIs (now (bytes .entry)) (now (members .entry)) first count at r ⌝ }
+    requires { ⌜ AskBytes (length (now bytes)) 16 at c × (form ≤ 3) × (first + count ≤ 1024) × Rising (now members) first count ⌝ }
+    ensures { λ r. ⌜ UnionOpens (now (members .entry)) (now (bytes .entry)) (now (values .entry)) (now (values .exit)) at c first count form r × MemberIs (now (bytes .entry)) (now (members .entry)) first count at r ⌝ }
 {
     let ordinal = words::load64(bytes, at);
     let envelope = words::load64(bytes, at + 8);
@@ -196,7 +193,6 @@ fn taken(held: usize, handles: u16, at: usize, c: Cursor) -> Walked
 // An envelope with a known payload, before its value: 15, 5; out of line 6, 7.
 pub fn known_opened(
     bytes: &[u8],
-    held: usize,
     objects: &mut [u32],
     depth: usize,
     payload: usize,
@@ -204,8 +200,8 @@ pub fn known_opened(
     at: usize,
     c: Cursor,
 ) -> Opened
-    requires { ⌜ Ask (length (now bytes)) held 7 at c × (payload < 4294967296) × (size ≤ 65528) ⌝ }
-    ensures { λ r. ⌜ KnownOpens (now (bytes .entry)) held depth (now (objects .entry)) (now (objects .exit)) at c payload size r × Reaches depth r ⌝ }
+    requires { ⌜ AskBytes (length (now bytes)) 7 at c × (payload < 4294967296) × (size ≤ 65528) ⌝ }
+    ensures { λ r. ⌜ KnownOpens (now (bytes .entry)) depth (now (objects .entry)) (now (objects .exit)) at c payload size r × Reaches depth r ⌝ }
 {
     let flags = words::load16(bytes, at + 6);
     if size <= 4 {
@@ -224,7 +220,7 @@ pub fn known_opened(
     if flags != 0 {
         return Opened::Refused(fault_at(15, at));
     }
-    deeper(bytes, held, objects, depth, 5, payload, 1, size, at, c)
+    deeper(bytes, objects, depth, 5, payload, 1, size, at, c)
 }
 
 // After a known payload: in line 7, out of line 16 for its byte number; then 16 for its handle number.

@@ -2,8 +2,7 @@
 // functions of cycle.rt.
 ghost use Prim.Native.Nat.{_≤_, _<_};
 ghost use lib.ListN.{length};
-ghost use Rattle.walk_leaves.specs.Doing.{Ask};
-ghost use Rattle.walk_records.specs.Opening.{HasCount, Reaches};
+ghost use Rattle.walk_records.specs.Opening.{AskBytes, HasCount, Reaches};
 ghost use Rattle.walk_records.specs.Contracts.{CountAt, DeeperOpens, CountedOpens, StringDid, BoxOpens, EnvelopesOpen, TableOpens};
 use rules::Fault;
 use walk_leaves::claims::claim;
@@ -62,7 +61,6 @@ pub fn count_record(bytes: &[u8], optional: u32, largest: u32, at: usize) -> Cou
 // Goes one level deeper and claims: 5 at the record, 6, 7.
 pub fn deeper(
     bytes: &[u8],
-    held: usize,
     objects: &mut [u32],
     depth: usize,
     kind: u32,
@@ -72,8 +70,8 @@ pub fn deeper(
     at: usize,
     c: Cursor,
 ) -> Opened
-    requires { ⌜ Ask (length (now bytes)) held 4 at c × (row < 4294967296) × (size < 281474976710656) ⌝ }
-    ensures { λ r. ⌜ DeeperOpens (now (bytes .entry)) held depth (now (objects .entry)) (now (objects .exit)) at c kind row size r × HasCount count r × Reaches depth r ⌝ }
+    requires { ⌜ AskBytes (length (now bytes)) 4 at c × (row < 4294967296) × (size < 281474976710656) ⌝ }
+    ensures { λ r. ⌜ DeeperOpens (now (bytes .entry)) depth (now (objects .entry)) (now (objects .exit)) at c kind row size r × HasCount count r × Reaches depth r ⌝ }
 {
     if depth == 0 {
         return Opened::Refused(fault_at(5, at));
@@ -92,7 +90,6 @@ pub fn deeper(
 // A vector's or a string's record: 9 to 12, then 5, 6, 7.
 pub fn vector_opened(
     bytes: &[u8],
-    held: usize,
     values: &mut [u64],
     objects: &mut [u32],
     depth: usize,
@@ -103,26 +100,15 @@ pub fn vector_opened(
     at: usize,
     c: Cursor,
 ) -> Opened
-    requires { ⌜ Ask (length (now bytes)) held 16 at c × (row < 4294967296) × (size ≤ 65528) ⌝ }
-    ensures { λ r. ⌜ CountedOpens (now (bytes .entry)) held depth (now (values .entry)) (now (values .exit)) (now (objects .entry)) (now (objects .exit)) at c row size largest optional r × Reaches depth r ⌝ }
+    requires { ⌜ AskBytes (length (now bytes)) 16 at c × (row < 4294967296) × (size ≤ 65528) ⌝ }
+    ensures { λ r. ⌜ CountedOpens (now (bytes .entry)) depth (now (values .entry)) (now (values .exit)) (now (objects .entry)) (now (objects .exit)) at c row size largest optional r × Reaches depth r ⌝ }
 {
     match count_record(bytes, optional, largest, at) {
         Count::Absent => Opened::Closed(gave(values, 0, c)),
         Count::Wrong(f) => Opened::Refused(f),
         Count::Present(count) => {
             let d = gave(values, count as u64 + 1, c);
-            deeper(
-                bytes,
-                held,
-                objects,
-                depth,
-                2,
-                row,
-                count,
-                count * size,
-                at,
-                d,
-            )
+            deeper(bytes, objects, depth, 2, row, count, count * size, at, d)
         }
     }
 }
@@ -130,7 +116,6 @@ pub fn vector_opened(
 // A string's record and its text: 9 to 12, then 5, 6, 7, 13.
 pub fn string(
     bytes: &[u8],
-    held: usize,
     values: &mut [u64],
     objects: &mut [u32],
     depth: usize,
@@ -140,12 +125,11 @@ pub fn string(
     at: usize,
     c: Cursor,
 ) -> Walked
-    requires { ⌜ Ask (length (now bytes)) held 16 at c × (row < 4294967296) ⌝ }
-    ensures { λ r. ⌜ StringDid (now (bytes .entry)) held depth (now (values .entry)) (now (values .exit)) (now (objects .entry)) (now (objects .exit)) at c row largest optional r ⌝ }
+    requires { ⌜ AskBytes (length (now bytes)) 16 at c × (row < 4294967296) ⌝ }
+    ensures { λ r. ⌜ StringDid (now (bytes .entry)) depth (now (values .entry)) (now (values .exit)) (now (objects .entry)) (now (objects .exit)) at c row largest optional r ⌝ }
 {
     match vector_opened(
         bytes,
-        held,
         values,
         objects,
         depth,
@@ -173,7 +157,6 @@ pub fn string(
 // A box's word: 9, then 5, 6, 7.
 pub fn box_opened(
     bytes: &[u8],
-    held: usize,
     values: &mut [u64],
     objects: &mut [u32],
     depth: usize,
@@ -182,8 +165,8 @@ pub fn box_opened(
     at: usize,
     c: Cursor,
 ) -> Opened
-    requires { ⌜ Ask (length (now bytes)) held 8 at c × (element < 4294967296) × (size ≤ 65528) ⌝ }
-    ensures { λ r. ⌜ BoxOpens (now (bytes .entry)) held depth (now (values .entry)) (now (values .exit)) (now (objects .entry)) (now (objects .exit)) at c element size r × Reaches depth r ⌝ }
+    requires { ⌜ AskBytes (length (now bytes)) 8 at c × (element < 4294967296) × (size ≤ 65528) ⌝ }
+    ensures { λ r. ⌜ BoxOpens (now (bytes .entry)) depth (now (values .entry)) (now (values .exit)) (now (objects .entry)) (now (objects .exit)) at c element size r × Reaches depth r ⌝ }
 {
     let presence = words::load64(bytes, at);
     if presence == 0 {
@@ -191,7 +174,7 @@ pub fn box_opened(
     }
     if presence == 18446744073709551615 {
         let d = gave(values, 1, c);
-        return deeper(bytes, held, objects, depth, 3, element, 1, size, at, d);
+        return deeper(bytes, objects, depth, 3, element, 1, size, at, d);
     }
     Opened::Refused(fault_at(9, at))
 }
@@ -199,7 +182,6 @@ pub fn box_opened(
 // A table's envelopes, so many: 5, 6, 7, then 19 at the last one. Over 8,192 fit in no message.
 fn envelopes_opened(
     bytes: &[u8],
-    held: usize,
     objects: &mut [u32],
     depth: usize,
     row: usize,
@@ -207,8 +189,8 @@ fn envelopes_opened(
     at: usize,
     c: Cursor,
 ) -> Opened
-    requires { ⌜ Ask (length (now bytes)) held 4 at c × (row < 4294967296) ⌝ }
-    ensures { λ r. ⌜ EnvelopesOpen (now (bytes .entry)) held depth (now (objects .entry)) (now (objects .exit)) at c row count r × HasCount count r × Reaches depth r ⌝ }
+    requires { ⌜ AskBytes (length (now bytes)) 4 at c × (row < 4294967296) ⌝ }
+    ensures { λ r. ⌜ EnvelopesOpen (now (bytes .entry)) depth (now (objects .entry)) (now (objects .exit)) at c row count r × HasCount count r × Reaches depth r ⌝ }
 {
     if depth == 0 {
         return Opened::Refused(fault_at(5, at));
@@ -219,7 +201,6 @@ fn envelopes_opened(
     let envelopes = count as usize;
     match deeper(
         bytes,
-        held,
         objects,
         depth,
         4,
@@ -246,7 +227,6 @@ fn envelopes_opened(
 // A table's record: 9, 10, then its envelopes.
 pub fn table_opened(
     bytes: &[u8],
-    held: usize,
     values: &mut [u64],
     objects: &mut [u32],
     depth: usize,
@@ -254,8 +234,8 @@ pub fn table_opened(
     at: usize,
     c: Cursor,
 ) -> Opened
-    requires { ⌜ Ask (length (now bytes)) held 16 at c × (row < 4294967296) ⌝ }
-    ensures { λ r. ⌜ TableOpens (now (bytes .entry)) held depth (now (values .entry)) (now (values .exit)) (now (objects .entry)) (now (objects .exit)) at c row r × Reaches depth r ⌝ }
+    requires { ⌜ AskBytes (length (now bytes)) 16 at c × (row < 4294967296) ⌝ }
+    ensures { λ r. ⌜ TableOpens (now (bytes .entry)) depth (now (values .entry)) (now (values .exit)) (now (objects .entry)) (now (objects .exit)) at c row r × Reaches depth r ⌝ }
 {
     let count = words::load64(bytes, at);
     let presence = words::load64(bytes, at + 8);
@@ -264,7 +244,7 @@ pub fn table_opened(
     }
     if presence == 18446744073709551615 {
         let d = gave(values, count, c);
-        return envelopes_opened(bytes, held, objects, depth, row, count, at, d);
+        return envelopes_opened(bytes, objects, depth, row, count, at, d);
     }
     Opened::Refused(fault_at(9, at))
 }

@@ -29,6 +29,7 @@ use Rattle.ordinals.proofs.ordinal_of.Reads as ordinal-of-reads
 use Rattle.plans.proofs.plan_of.Reads as plan-of-reads
 use Rattle.walk.specs.Walking.{walkRow}
 use Rattle.walk_records.proofs.Levels.{level-left}
+use Rattle.walk_records.proofs.Openings.{ask-bytes}
 use Rattle.walk.proofs.Contents.{content-unknown, content-closed, content-not-open, payload-few, payload-small, payload-ready, payload-asks, payload-rises, content-sealed, content-refused}
 use Rattle.walk_records.proofs.Unions.{member-fits}
 use Rattle.walk.proofs.OutOfLine.{elements-few, vector-record, box-record, table-record, union-record, vector-closed, vector-refused, vector-asks, vector-done, box-absent, box-refused, box-asks, box-done, table-closed, table-refused, table-asks, table-done, union-none, union-bad, union-asks, union-done}
@@ -399,7 +400,7 @@ content-known-opened-requires t c κs =
     let at-number-at = c .before in
     let at-what = at-number-at .before .before .before in
     let start = at-what .before .before .before .before .before .before .before in
-    (start .pre .1 .2, omega (arith, payload-few _ (start .pre .1 .0) (start .pre .1 .1) (at-what .what .given .1)), payload-small _ (start .pre .1 .0) (start .pre .1 .1) (at-what .what .given .1) (at-number-at .number-at .ensures))
+    (ask-bytes (start .pre .1 .2), omega (arith, payload-few _ (start .pre .1 .0) (start .pre .1 .1) (at-what .what .given .1)), payload-small _ (start .pre .1 .0) (start .pre .1 .1) (at-what .what .given .1) (at-number-at .number-at .ensures))
 
 content-sub-value : (t : ℕ) → content-lts.Need-sub-value (content-calls t) (content-at t) content.Post
 content-sub-value t c = search (needs, level-left)
@@ -412,7 +413,7 @@ content-value-requires t c κs =
     let at-what = at-number-at .before .before .before in
     let start = at-what .before .before .before .before .before .before .before in
     let l = level-left _ _ (at-known-opened .known-opened .ensures .1) (at-x .x .given .1) in
-    (omega (arith, start .pre .0, l, payload-few _ (start .pre .1 .0) (start .pre .1 .1) (at-what .what .given .1)), (payload-ready _ (start .pre .1 .0) (start .pre .1 .1) (at-what .what .given .1), payload-asks _ (start .args .bytes .now) _ _ _ _ (start .args .values .now) _ _ _ _ (start .pre .1 .0) (start .pre .1 .1) (at-what .what .given .1) (at-number-at .number-at .ensures) _ (at-known-opened .known-opened .ensures .0) (at-x .x .given .1)))
+    (omega (arith, start .pre .0, l, payload-few _ (start .pre .1 .0) (start .pre .1 .1) (at-what .what .given .1)), (payload-ready _ (start .pre .1 .0) (start .pre .1 .1) (at-what .what .given .1), payload-asks _ (start .args .bytes .now) _ _ _ _ (start .args .values .now) _ _ _ _ (start .pre .1 .0) (start .pre .1 .1) (at-what .what .given .1) (at-number-at .number-at .ensures) (start .pre .1 .2) _ (at-known-opened .known-opened .ensures .0) (at-x .x .given .1)))
 
 content-sealed-requires : (t : ℕ) → content-lts.Need-sealed-requires (content-calls t) (content-at t) content.Post
 content-sealed-requires t c κs =
@@ -424,7 +425,7 @@ content-sealed-requires t c κs =
     let at-what = at-number-at .before .before .before in
     let start = at-what .before .before .before .before .before .before .before in
     let a = start .pre .1 .2 in
-    let p = payload-rises _ _ _ _ _ _ _ _ _ _ _ (start .pre .1 .0) (start .pre .1 .1) (at-what .what .given .1) (at-number-at .number-at .ensures) _ (at-known-opened .known-opened .ensures .0) (at-x .x .given .1) (at-value .value .ensures) (at-d2 .d2 .given .1) in
+    let p = payload-rises _ _ _ _ _ _ _ _ _ _ _ (start .pre .1 .0) (start .pre .1 .1) (at-what .what .given .1) (at-number-at .number-at .ensures) (start .pre .1 .2) _ (at-known-opened .known-opened .ensures .0) (at-x .x .given .1) (at-value .value .ensures) (at-d2 .d2 .given .1) in
     (omega (arith, a .inside, a .short), payload-small _ (start .pre .1 .0) (start .pre .1 .1) (at-what .what .given .1) (at-number-at .number-at .ensures), p .0, p .1)
 
 content-returns : (t : ℕ) → content-lts.Need-returns (content-calls t) (content-at t) content.Post
@@ -573,7 +574,7 @@ out-of-line-vector-opened-requires t c κs =
     let start = at-number-at .before .before .before .before .before .before in
     let r = start .pre .1 .0 in
     let h = vector-in-use r (at-number-at .number-at .ensures) (at-number-at2 .number-at2 .ensures) (at-if1 .if1 .taken) in
-    (vector-record _ _ (at-number-at .number-at .ensures) (start .pre .1 .2) (at-if1 .if1 .taken), omega (arith, row-few r), size-small r _ h (at-number-at5 .number-at5 .ensures))
+    (ask-bytes (vector-record _ _ (at-number-at .number-at .ensures) (start .pre .1 .2) (at-if1 .if1 .taken)), omega (arith, row-few r), size-small r _ h (at-number-at5 .number-at5 .ensures))
 
 out-of-line-sub-elements : (t : ℕ) → out-of-line-lts.Need-sub-elements (out-of-line-calls t) (out-of-line-at t) out-of-line.Post
 out-of-line-sub-elements t c = search (needs, level-left)
@@ -592,14 +593,14 @@ out-of-line-elements-requires t c κs =
     let r = start .pre .1 .0 in
     let h = vector-in-use r (at-number-at .number-at .ensures) (at-number-at2 .number-at2 .ensures) (at-if1 .if1 .taken) in
     let l = level-left _ _ (at-vector-opened .vector-opened .ensures .1) (at-x .x .given .1) in
-    let asks = vector-asks (typeTable (start .args .rows .now) (start .args .members .now)) (start .args .bytes .now) _ _ _ _ _ _ _ _ _ _ (at-number-at .number-at .ensures) (at-if1 .if1 .taken) (at-number-at2 .number-at2 .ensures) (at-number-at3 .number-at3 .ensures) (at-number-at4 .number-at4 .ensures) (start .pre .1 .0) (at-number-at5 .number-at5 .ensures) (at-vector-opened .vector-opened .ensures .0) (at-x .x .given .1) in
+    let asks = vector-asks (typeTable (start .args .rows .now) (start .args .members .now)) (start .args .bytes .now) _ _ _ _ _ _ _ _ _ _ (at-number-at .number-at .ensures) (start .pre .1 .2) (at-if1 .if1 .taken) (at-number-at2 .number-at2 .ensures) (at-number-at3 .number-at3 .ensures) (at-number-at4 .number-at4 .ensures) (start .pre .1 .0) (at-number-at5 .number-at5 .ensures) (at-vector-opened .vector-opened .ensures .0) (at-x .x .given .1) in
     (omega (arith, start .pre .0, row-in-use r _ h, elements-few r _ h _ asks, l), (ready-at r _ _ (omega arith) h, asks))
 
 out-of-line-returns : (t : ℕ) → out-of-line-lts.Need-returns (out-of-line-calls t) (out-of-line-at t) out-of-line.Post
-out-of-line-returns t c = search (needs, vector-closed, c .before .before .before .before .before .before .before .before .before .before .before .before .before .before .before .before .before .before .before .before .before .before .pre .1 .0)
+out-of-line-returns t c = search (needs, vector-closed, c .before .before .before .before .before .before .before .before .before .before .before .before .before .before .before .before .before .before .before .before .before .before .pre .1 .0, c .before .before .before .before .before .before .before .before .before .before .before .before .before .before .before .before .before .before .before .before .before .before .pre .1 .2)
 
 out-of-line-returns-2 : (t : ℕ) → out-of-line-lts.Need-returns-2 (out-of-line-calls t) (out-of-line-at t) out-of-line.Post
-out-of-line-returns-2 t c = search (needs, vector-refused, c .before .before .before .before .before .before .before .before .before .before .before .before .before .before .before .before .before .before .before .before .before .before .pre .1 .0)
+out-of-line-returns-2 t c = search (needs, vector-refused, c .before .before .before .before .before .before .before .before .before .before .before .before .before .before .before .before .before .before .before .before .before .before .pre .1 .0, c .before .before .before .before .before .before .before .before .before .before .before .before .before .before .before .before .before .before .before .before .before .before .pre .1 .2)
 
 out-of-line-returns-3 : (t : ℕ) → out-of-line-lts.Need-returns-3 (out-of-line-calls t) (out-of-line-at t) out-of-line.Post
 out-of-line-returns-3 t c =
@@ -613,7 +614,7 @@ out-of-line-returns-3 t c =
     let at-number-at2 = at-number-at3 .before in
     let at-number-at = at-number-at2 .before in
     let start = at-number-at .before .before .before .before .before .before in
-    rw (c .passed-on .ensures) (vector-done _ _ _ _ _ _ _ _ _ _ _ _ (at-number-at .number-at .ensures) (at-if1 .if1 .taken) (at-number-at2 .number-at2 .ensures) (at-number-at3 .number-at3 .ensures) (at-number-at4 .number-at4 .ensures) (start .pre .1 .0) (at-number-at5 .number-at5 .ensures) (at-vector-opened .vector-opened .ensures .0) (at-x .x .given .1) (at-elements .elements .ensures))
+    rw (c .passed-on .ensures) (vector-done _ _ _ _ _ _ _ _ _ _ _ _ (at-number-at .number-at .ensures) (start .pre .1 .2) (at-if1 .if1 .taken) (at-number-at2 .number-at2 .ensures) (at-number-at3 .number-at3 .ensures) (at-number-at4 .number-at4 .ensures) (start .pre .1 .0) (at-number-at5 .number-at5 .ensures) (at-vector-opened .vector-opened .ensures .0) (at-x .x .given .1) (at-elements .elements .ensures))
 
 out-of-line-box-opened-requires : (t : ℕ) → out-of-line-lts.Need-box-opened-requires (out-of-line-calls t) (out-of-line-at t) out-of-line.Post
 out-of-line-box-opened-requires t c κs =
@@ -624,7 +625,7 @@ out-of-line-box-opened-requires t c κs =
     let start = at-number-at .before .before .before .before .before .before in
     let r = start .pre .1 .0 in
     let h = box-in-use r (at-number-at .number-at .ensures) (at-number-at2 .number-at2 .ensures) (at-if2 .if2 .taken) in
-    (box-record _ _ (at-number-at .number-at .ensures) (start .pre .1 .2) (at-if2 .if2 .taken), omega (arith, row-in-use r _ h), size-small r _ h (at-number-at6 .number-at6 .ensures))
+    (ask-bytes (box-record _ _ (at-number-at .number-at .ensures) (start .pre .1 .2) (at-if2 .if2 .taken)), omega (arith, row-in-use r _ h), size-small r _ h (at-number-at6 .number-at6 .ensures))
 
 out-of-line-sub-value : (t : ℕ) → out-of-line-lts.Need-sub-value (out-of-line-calls t) (out-of-line-at t) out-of-line.Post
 out-of-line-sub-value t c = search (needs, level-left)
@@ -641,13 +642,13 @@ out-of-line-value-requires t c κs =
     let r = start .pre .1 .0 in
     let h = box-in-use r (at-number-at .number-at .ensures) (at-number-at2 .number-at2 .ensures) (at-if2 .if2 .taken) in
     let l = level-left _ _ (at-box-opened .box-opened .ensures .1) (at-x2 .x2 .given .1) in
-    (omega (arith, start .pre .0, row-in-use r _ h, l), (ready-at r _ _ (omega arith) h, box-asks (typeTable (start .args .rows .now) (start .args .members .now)) (start .args .bytes .now) _ _ _ _ _ _ _ _ _ _ (at-number-at .number-at .ensures) (at-if2 .if2 .taken) (at-number-at2 .number-at2 .ensures) (start .pre .1 .0) (at-number-at6 .number-at6 .ensures) (at-box-opened .box-opened .ensures .0) (at-x2 .x2 .given .1)))
+    (omega (arith, start .pre .0, row-in-use r _ h, l), (ready-at r _ _ (omega arith) h, box-asks (typeTable (start .args .rows .now) (start .args .members .now)) (start .args .bytes .now) _ _ _ _ _ _ _ _ _ _ (at-number-at .number-at .ensures) (start .pre .1 .2) (at-if2 .if2 .taken) (at-number-at2 .number-at2 .ensures) (start .pre .1 .0) (at-number-at6 .number-at6 .ensures) (at-box-opened .box-opened .ensures .0) (at-x2 .x2 .given .1)))
 
 out-of-line-returns-4 : (t : ℕ) → out-of-line-lts.Need-returns-4 (out-of-line-calls t) (out-of-line-at t) out-of-line.Post
-out-of-line-returns-4 t c = search (needs, box-absent, c .before .before .before .before .before .before .before .before .before .before .before .before .before .before .before .before .before .before .before .before .before .before .before .pre .1 .0)
+out-of-line-returns-4 t c = search (needs, box-absent, c .before .before .before .before .before .before .before .before .before .before .before .before .before .before .before .before .before .before .before .before .before .before .before .pre .1 .0, c .before .before .before .before .before .before .before .before .before .before .before .before .before .before .before .before .before .before .before .before .before .before .before .pre .1 .2)
 
 out-of-line-returns-5 : (t : ℕ) → out-of-line-lts.Need-returns-5 (out-of-line-calls t) (out-of-line-at t) out-of-line.Post
-out-of-line-returns-5 t c = search (needs, box-refused, c .before .before .before .before .before .before .before .before .before .before .before .before .before .before .before .before .before .before .before .before .before .before .before .pre .1 .0)
+out-of-line-returns-5 t c = search (needs, box-refused, c .before .before .before .before .before .before .before .before .before .before .before .before .before .before .before .before .before .before .before .before .before .before .before .pre .1 .0, c .before .before .before .before .before .before .before .before .before .before .before .before .before .before .before .before .before .before .before .before .before .before .before .pre .1 .2)
 
 out-of-line-returns-6 : (t : ℕ) → out-of-line-lts.Need-returns-6 (out-of-line-calls t) (out-of-line-at t) out-of-line.Post
 out-of-line-returns-6 t c =
@@ -659,14 +660,14 @@ out-of-line-returns-6 t c =
     let at-number-at2 = at-if2 .before .before .before .before in
     let at-number-at = at-number-at2 .before in
     let start = at-number-at .before .before .before .before .before .before in
-    rw (c .passed-on2 .ensures) (box-done _ _ _ _ _ _ _ _ _ _ _ _ (at-number-at .number-at .ensures) (at-if2 .if2 .taken) (at-number-at2 .number-at2 .ensures) (start .pre .1 .0) (at-number-at6 .number-at6 .ensures) (at-box-opened .box-opened .ensures .0) (at-x2 .x2 .given .1) (at-value .value .ensures))
+    rw (c .passed-on2 .ensures) (box-done _ _ _ _ _ _ _ _ _ _ _ _ (at-number-at .number-at .ensures) (start .pre .1 .2) (at-if2 .if2 .taken) (at-number-at2 .number-at2 .ensures) (start .pre .1 .0) (at-number-at6 .number-at6 .ensures) (at-box-opened .box-opened .ensures .0) (at-x2 .x2 .given .1) (at-value .value .ensures))
 
 out-of-line-table-opened-requires : (t : ℕ) → out-of-line-lts.Need-table-opened-requires (out-of-line-calls t) (out-of-line-at t) out-of-line.Post
 out-of-line-table-opened-requires t c κs =
     let at-if3 = c .before .before in
     let at-number-at = at-if3 .before .before .before .before .before .before in
     let start = at-number-at .before .before .before .before .before .before in
-    (table-record _ _ (at-number-at .number-at .ensures) (start .pre .1 .2) (at-if3 .if3 .taken), omega (arith, row-few (start .pre .1 .0)))
+    (ask-bytes (table-record _ _ (at-number-at .number-at .ensures) (start .pre .1 .2) (at-if3 .if3 .taken)), omega (arith, row-few (start .pre .1 .0)))
 
 out-of-line-sub-envelopes : (t : ℕ) → out-of-line-lts.Need-sub-envelopes (out-of-line-calls t) (out-of-line-at t) out-of-line.Post
 out-of-line-sub-envelopes t c = search (needs, level-left)
@@ -680,7 +681,7 @@ out-of-line-envelopes-requires t c κs =
     let start = at-number-at .before .before .before .before .before .before in
     let r = start .pre .1 .0 in
     let l = level-left _ _ (at-table-opened .table-opened .ensures .1) (at-x3 .x3 .given .1) in
-    let asks = table-asks (typeTable (start .args .rows .now) (start .args .members .now)) (start .args .bytes .now) _ _ _ _ _ _ _ _ _ _ (at-number-at .number-at .ensures) (at-if3 .if3 .taken) (start .pre .1 .0) (at-table-opened .table-opened .ensures .0) (at-x3 .x3 .given .1) in
+    let asks = table-asks (typeTable (start .args .rows .now) (start .args .members .now)) (start .args .bytes .now) _ _ _ _ _ _ _ _ _ _ (at-number-at .number-at .ensures) (start .pre .1 .2) (at-if3 .if3 .taken) (start .pre .1 .0) (at-table-opened .table-opened .ensures .0) (at-x3 .x3 .given .1) in
     (omega (arith, start .pre .0, asks .inside, asks .short, l), (ready-at r _ _ (omega arith) (r .in-use), sym (at-number-at .number-at .ensures) ∙ at-if3 .if3 .taken, asks))
 
 out-of-line-returns-7 : (t : ℕ) → out-of-line-lts.Need-returns-7 (out-of-line-calls t) (out-of-line-at t) out-of-line.Post
@@ -697,7 +698,7 @@ out-of-line-returns-9 t c =
     let at-if3 = at-table-opened .before .before .before in
     let at-number-at = at-if3 .before .before .before .before .before .before in
     let start = at-number-at .before .before .before .before .before .before in
-    rw (c .passed-on3 .ensures) (table-done _ _ _ _ _ _ _ _ _ _ _ _ (at-number-at .number-at .ensures) (at-if3 .if3 .taken) (start .pre .1 .0) (at-table-opened .table-opened .ensures .0) (at-x3 .x3 .given .1) (at-envelopes .envelopes .ensures))
+    rw (c .passed-on3 .ensures) (table-done _ _ _ _ _ _ _ _ _ _ _ _ (at-number-at .number-at .ensures) (start .pre .1 .2) (at-if3 .if3 .taken) (start .pre .1 .0) (at-table-opened .table-opened .ensures .0) (at-x3 .x3 .given .1) (at-envelopes .envelopes .ensures))
 
 out-of-line-union-member-requires : (t : ℕ) → out-of-line-lts.Need-union-member-requires (out-of-line-calls t) (out-of-line-at t) out-of-line.Post
 out-of-line-union-member-requires t c κs =
@@ -712,7 +713,7 @@ out-of-line-union-member-requires t c κs =
     let r = start .pre .1 .0 in
     let q = union-else r (at-number-at .number-at .ensures) (start .pre .1 .1) (at-if1 .if1 .left) (at-if2 .if2 .left) (at-if3 .if3 .left) in
     let m = union-members r (at-number-at .number-at .ensures) (at-number-at2 .number-at2 .ensures) (at-number-at3 .number-at3 .ensures) q in
-    (union-record _ _ (at-number-at .number-at .ensures) (start .pre .1 .2) (start .pre .1 .0 .edition) q, omega (arith, m .1, at-number-at4 .number-at4 .ensures), m .0 .exist, members-rise (m .0))
+    (ask-bytes (union-record _ _ (at-number-at .number-at .ensures) (start .pre .1 .2) (start .pre .1 .0 .edition) q), omega (arith, m .1, at-number-at4 .number-at4 .ensures), m .0 .exist, members-rise (m .0))
 
 out-of-line-add-content : (t : ℕ) → out-of-line-lts.Need-add-content (out-of-line-calls t) (out-of-line-at t) out-of-line.Post
 out-of-line-add-content t c =
@@ -741,7 +742,7 @@ out-of-line-content-requires t c κs =
     let r = start .pre .1 .0 in
     let q = union-else r (at-number-at .number-at .ensures) (start .pre .1 .1) (at-if1 .if1 .left) (at-if2 .if2 .left) (at-if3 .if3 .left) in
     let m = union-members r (at-number-at .number-at .ensures) (at-number-at2 .number-at2 .ensures) (at-number-at3 .number-at3 .ensures) q in
-    let a = union-asks (typeTable (start .args .rows .now) (start .args .members .now)) (start .args .bytes .now) _ _ _ _ _ _ (start .args .objects .now) _ _ (at-number-at .number-at .ensures) (at-number-at2 .number-at2 .ensures) (at-number-at3 .number-at3 .ensures) (at-number-at4 .number-at4 .ensures) q (start .pre .1 .0) (at-union-member .union-member .ensures .0) (at-what .what .given .1) (union-record _ _ (at-number-at .number-at .ensures) (start .pre .1 .2) (start .pre .1 .0 .edition) q) in
+    let a = union-asks (typeTable (start .args .rows .now) (start .args .members .now)) (start .args .bytes .now) _ _ _ _ _ _ (start .args .objects .now) _ _ (at-number-at .number-at .ensures) (at-number-at2 .number-at2 .ensures) (at-number-at3 .number-at3 .ensures) (at-number-at4 .number-at4 .ensures) q (start .pre .1 .0) (start .pre .1 .2) (at-union-member .union-member .ensures .0) (at-what .what .given .1) in
     (omega (arith, start .pre .0), (r, member-fits (m .0) _ _ _ (at-union-member .union-member .ensures .1) (at-what .what .given .1), a))
 
 out-of-line-returns-10 : (t : ℕ) → out-of-line-lts.Need-returns-10 (out-of-line-calls t) (out-of-line-at t) out-of-line.Post
@@ -764,7 +765,7 @@ out-of-line-returns-12 t c =
     let at-number-at = at-number-at2 .before in
     let start = at-number-at .before .before .before .before .before .before in
     let q = union-else (start .pre .1 .0) (at-number-at .number-at .ensures) (start .pre .1 .1) (at-if1 .if1 .left) (at-if2 .if2 .left) (at-if3 .if3 .left) in
-    rw (c .passed-on4 .ensures) (union-done _ _ _ _ _ _ _ _ _ _ _ (at-number-at .number-at .ensures) (at-number-at2 .number-at2 .ensures) (at-number-at3 .number-at3 .ensures) (at-number-at4 .number-at4 .ensures) q (start .pre .1 .0) (at-union-member .union-member .ensures .0) (at-what .what .given .1) (at-content .content .ensures))
+    rw (c .passed-on4 .ensures) (union-done _ _ _ _ _ _ _ _ _ _ _ (at-number-at .number-at .ensures) (at-number-at2 .number-at2 .ensures) (at-number-at3 .number-at3 .ensures) (at-number-at4 .number-at4 .ensures) q (start .pre .1 .0) (start .pre .1 .2) (at-union-member .union-member .ensures .0) (at-what .what .given .1) (at-content .content .ensures))
 
 -- ---- value: a value of any kind
 
@@ -825,7 +826,7 @@ value-string-requires t c κs =
     let at-if7 = c .before .before .before .before in
     let at-number-at = at-if7 .before .before .before .before .before .before in
     let start = at-number-at .before .before .before .before .before .before in
-    (string-ask _ _ (at-number-at .number-at .ensures) (at-if7 .if7 .taken) (start .pre .1 .1), omega (arith, row-few (start .pre .1 .0)))
+    (ask-bytes (string-ask _ _ (at-number-at .number-at .ensures) (at-if7 .if7 .taken) (start .pre .1 .1)), omega (arith, row-few (start .pre .1 .0)))
 
 value-returns-7 : (t : ℕ) → value-lts.Need-returns-7 (value-calls t) (value-at t) value.Post
 value-returns-7 t c = search (needs, value-string)

@@ -6,19 +6,19 @@ use Rattle.walk_records.proofs.envelopes.known_opened.Statement.{statem
 use Rattle.walk_records.proofs.envelopes.known_opened.Tie as tie
 
 returns : tie.Need-returns
-returns c = (λ t values row e. search (needs, in-line-wrong), search needs)
+returns c = (λ t values handles row e ask. search (needs, in-line-wrong), search needs)
 
 returns-2 : tie.Need-returns-2
-returns-2 c = (λ t values row e. search (needs, in-line-too-deep), search needs)
+returns-2 c = (λ t values handles row e ask. search (needs, in-line-too-deep), search needs)
 
 returns-3 : tie.Need-returns-3
-returns-3 c = (λ t values row e. search (needs, in-line-open), search needs)
+returns-3 c = (λ t values handles row e ask. search (needs, in-line-open), search needs)
 
 returns-4 : tie.Need-returns-4
-returns-4 c = (λ t values row e. search (needs, out-of-line-wrong), search needs)
+returns-4 c = (λ t values handles row e ask. search (needs, out-of-line-wrong), search needs)
 
 returns-5 : tie.Need-returns-5
-returns-5 c = (λ t values row e. search (needs, out-of-line-open), search needs)
+returns-5 c = (λ t values handles row e ask. search (needs, out-of-line-open), search needs)
 
 pub known-opened-spec : {M : Type 1} → statement M
 known-opened-spec =

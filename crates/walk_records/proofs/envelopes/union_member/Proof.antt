@@ -6,12 +6,12 @@ use Rattle.walk_records.proofs.envelopes.union_member.Statement.{statem
 use Rattle.walk_records.proofs.envelopes.union_member.Tie as tie
 
 returns : tie.Need-returns
-returns c = (λ t objects edition same. search (needs, union-required), search needs)
+returns c = (λ t objects handles depth row edition same ask. search (needs, union-required), search needs)
 
 returns-2 : tie.Need-returns-2
 returns-2 c =
     let at-shared-slice-known2 = c .before .before .before .before .before .before .before .before .before .before in
-    (λ t objects edition same. search (needs, union-absent, at-shared-slice-known2 .shared-slice-known2 .given), search needs)
+    (λ t objects handles depth row edition same ask. search (needs, union-absent, at-shared-slice-known2 .shared-slice-known2 .given), search needs)
 
 returns-3 : tie.Need-returns-3
 returns-3 c =
@@ -21,13 +21,12 @@ returns-3 c =
     let at-if1 = at-if2 .before in
     let at-load642 = at-if1 .before in
     let at-load64 = at-load642 .before in
-    let start = at-load64 .before .before .before .before in
-    (λ t objects edition same. union-not-absent t _ _ objects _ _ _ _ _ _ _ _ (at-load64 .load64 .ensures) (at-if1 .if1 .taken) edition (start .pre .0) (at-if2 .if2 .left) (at-load642 .load642 .ensures) (at-gave .gave .ensures) (at-if3 .if3 .left) (c .fault-at2 .ensures), search needs)
+    (λ t objects handles depth row edition same ask. union-not-absent t _ _ objects handles depth row _ _ _ _ _ (at-load64 .load64 .ensures) (at-if1 .if1 .taken) edition ask (at-if2 .if2 .left) (at-load642 .load642 .ensures) (at-gave .gave .ensures) (at-if3 .if3 .left) (c .fault-at2 .ensures), search needs)
 
 returns-4 : tie.Need-returns-4
 returns-4 c =
     let at-ordinal-of = c .before .before .before in
-    (λ t objects edition same. search (needs, union-unknown, at-ordinal-of .ordinal-of .ensures), search needs)
+    (λ t objects handles depth row edition same ask. search (needs, union-unknown, at-ordinal-of .ordinal-of .ensures), search needs)
 
 returns-5 : tie.Need-returns-5
 returns-5 c =
@@ -41,7 +40,7 @@ returns-5 c =
     let at-load64 = at-load642 .before in
     let at-shared-slice-known2 = at-load64 .before .before in
     let start = at-shared-slice-known2 .before .before in (
-      λ t objects edition same. union-empty t _ _ objects _ _ _ _ _ _ _ _ _ (at-ordinal-of .ordinal-of .result) _ edition same (start .pre .0) (start .pre .1) (at-load64 .load64 .ensures) (at-if1 .if1 .left) (start .pre .2) (start .pre .3) (at-ordinal-of .ordinal-of .ensures)
+      λ t objects handles depth row edition same ask. union-empty t _ _ objects handles depth row _ _ _ _ _ _ (at-ordinal-of .ordinal-of .result) _ edition same ask (start .pre .1) (at-load64 .load64 .ensures) (at-if1 .if1 .left) (start .pre .2) (start .pre .3) (at-ordinal-of .ordinal-of .ensures)
           (at-is-known .is-known .ensures) (at-if4 .if4 .left) (at-load642 .load642 .ensures) (at-gave2 .gave2 .ensures) (at-shared-slice-known2 .shared-slice-known2 .given) (at-if5 .if5 .taken) (c .fault-at4 .ensures),
       search needs,
     )
@@ -49,7 +48,7 @@ returns-5 c =
 returns-6 : tie.Need-returns-6
 returns-6 c =
     let at-ordinal-of = c .before .before .before .before .before .before .before in
-    (λ t objects edition same. search (needs, union-member, at-ordinal-of .ordinal-of .ensures), search (needs, member-is, at-ordinal-of .ordinal-of .ensures))
+    (λ t objects handles depth row edition same ask. search (needs, union-member, at-ordinal-of .ordinal-of .ensures), search (needs, member-is, at-ordinal-of .ordinal-of .ensures))
 
 pub union-member-spec : {M : Type 1} → statement M
 union-member-spec =

@@ -2,7 +2,7 @@
 -- Assumes nothing.
 use native.Mathlib.Omega.{arith}
 use borrow.Author.Needs.{needs}
-use Rattle.walk_records.proofs.Openings.{ask-gave}
+use Rattle.walk_records.proofs.Openings.{bytes-gave}
 use Rattle.walk_records.proofs.Boxes.{box-closed, box-opened, box-refused}
 use Rattle.walk_records.proofs.records.box_opened.Statement.{statement}
 use Rattle.walk_records.proofs.records.box_opened.Tie as tie
@@ -11,7 +11,7 @@ returns : tie.Need-returns
 returns c = search (needs, box-closed)
 
 deeper-requires : tie.Need-deeper-requires
-deeper-requires c κs = (search (needs, ask-gave), search needs, omega arith)
+deeper-requires c κs = (search (needs, bytes-gave), search needs, omega arith)
 
 returns-2 : tie.Need-returns-2
 returns-2 c = search (needs, box-opened)

@@ -1,7 +1,7 @@
 -- `walk_records::records::table_opened` meets its contract: a law for each answer.
 -- Assumes nothing.
 use borrow.Author.Needs.{needs}
-use Rattle.walk_records.proofs.Openings.{ask-gave}
+use Rattle.walk_records.proofs.Openings.{bytes-gave}
 use Rattle.walk_records.proofs.Tables.{table-absent, table-opened, table-neither}
 use Rattle.walk_records.proofs.records.table_opened.Statement.{statement}
 use Rattle.walk_records.proofs.records.table_opened.Tie as tie
@@ -10,7 +10,7 @@ returns : tie.Need-returns
 returns c = search (needs, table-absent)
 
 envelopes-opened-requires : tie.Need-envelopes-opened-requires
-envelopes-opened-requires c κs = (search (needs, ask-gave), search needs)
+envelopes-opened-requires c κs = (search (needs, bytes-gave), search needs)
 
 returns-2 : tie.Need-returns-2
 returns-2 c = search (needs, table-opened)

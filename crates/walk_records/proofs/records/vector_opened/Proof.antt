@@ -1,7 +1,7 @@
 -- `walk_records::records::vector_opened` meets its contract: a law for each arm; the count is bounded by the largest, which is a `u32`.
 -- Assumes nothing.
 use borrow.Author.Needs.{needs}
-use Rattle.walk_records.proofs.Openings.{ask-gave}
+use Rattle.walk_records.proofs.Openings.{bytes-gave}
 use Rattle.walk_records.proofs.Counts.{count-fits, elements-below, elements-fit, counted-closed, counted-refused, counted-opened}
 use Rattle.walk_records.proofs.records.vector_opened.Statement.{statement}
 use Rattle.walk_records.proofs.records.vector_opened.Tie as tie
@@ -13,7 +13,7 @@ mul-deeper : tie.Need-mul-deeper
 mul-deeper c = search (needs, elements-fit)
 
 deeper-requires : tie.Need-deeper-requires
-deeper-requires c κs = (search (needs, ask-gave), search needs, search (needs, elements-below))
+deeper-requires c κs = (search (needs, bytes-gave), search needs, search (needs, elements-below))
 
 returns : tie.Need-returns
 returns c = search (needs, counted-closed)
