@@ -1,7 +1,7 @@
 -- How many numbers a walk gives, value numbers and object numbers together: at most as many as the message has bytes, and four
 -- more. Each has a byte of its own. A value takes one in line at least; the four numbers of an object, and those that an envelope
 -- gives besides its payload, go to the record or envelope, which has 8 bytes at least; those of the primary object are the four more.
-use mathlib.Core.Path.{_≡_, refl}
+use mathlib.Core.Path.{_≡_, refl, ap}
 use mathlib.Core.Bool.{Bool, true, false, not, _&&_}
 use mathlib.Core.List.{List, [], _∷_, _++_}
 use Prim.Native.Nat.{ℕ, zero, suc, _+_, _-_, _*_, _/_, _≤_}
@@ -25,6 +25,7 @@ use Rattle.rules.specs.Envelope.{decodeWord, inLine, outOfLine, lowWord,
 use Rattle.rules.specs.Walk as W
 use Rattle.rules.specs.Answers.{walk, Reading, judged}
 use Rattle.rules.proofs.Bytes.{padded-above}
+use Rattle.rules.proofs.Trace.{objects-append}
 use Rattle.rules.proofs.Demands.{passed}
 
 -- What is asked of the type table, and holds of every sound one: a number's width is not 0.
@@ -55,18 +56,11 @@ within-require-after : (holds : ℕ → ℕ → List ℕ → Bool) (f : Fault) {
 within-require-after holds f (gave next used values trace h) = within-if (holds next used values) (gave next used values trace h) stops
 within-require-after holds f stops = stops
 
-objects-append : (s t : List Event) → length (objectList (s ++ t)) ≡ length (objectList s) + length (objectList t)
-unfolding objectList
-objects-append [] t = omega arith
-objects-append (claimed kind row offset size ∷ s) t = omega (arith, objects-append s t)
-objects-append (presentHandle at ∷ s) t = objects-append s t
-objects-append (unknownContent bytes handles ∷ s) t = objects-append s t
-
 -- What came before a result gives its own numbers.
 within-after : (values : List ℕ) (trace : List Event) {result : Decoded} {less most start from : ℕ}
     → length values + length (objectList trace) + (start + less) ≤ from + most → Within less from result → Within most start (D.after values trace result)
 within-after values trace l (gave next used more later h) =
-    gave next used (values ++ more) (trace ++ later) (omega (arith, length-append values more, objects-append trace later))
+    gave next used (values ++ more) (trace ++ later) (omega (arith, length-append values more, length-append (objectList trace) (objectList later), ap length (objects-append trace later)))
 within-after values trace l stops = stops
 
 within-then : {result : Decoded} (k : ℕ → ℕ → Decoded) {most more from : ℕ} → Within most from result → ((next used : ℕ) → Within more next (k next used))

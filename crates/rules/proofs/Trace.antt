@@ -19,6 +19,13 @@ allHandles-append (claimed kind row offset length ∷ s) t = allHandles-append s
 allHandles-append (presentHandle at ∷ s) t = omega (arith, allHandles-append s t)
 allHandles-append (unknownContent bytes handles ∷ s) t = omega (arith, allHandles-append s t)
 
+pub objects-append : (s t : List Event) → objectList (s ++ t) ≡ objectList s ++ objectList t
+unfolding objectList
+objects-append [] t = refl
+objects-append (claimed kind row offset length ∷ s) t = ap (λ (l : List ℕ). kind ∷ row ∷ offset ∷ length ∷ l) (objects-append s t)
+objects-append (presentHandle at ∷ s) t = objects-append s t
+objects-append (unknownContent bytes handles ∷ s) t = objects-append s t
+
 pub tiles-append : (a b c : ℕ) (s t : List Event) → Tiles a b (objectList s) → Tiles b c (objectList t) → Tiles a c (objectList (s ++ t))
 unfolding objectList Tiles
 tiles-append a b c [] t x y = rw x y

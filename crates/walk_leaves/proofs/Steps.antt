@@ -8,21 +8,15 @@ use native.Mathlib.Omega.{arith}
 use lib.ListN.{length, set, length-append}
 use lib.Seq.{sets}
 use Rattle.rules.specs.declared.Fault.{Fault}
-use Rattle.rules.specs.Trace.{Event, claimed, presentHandle, unknownContent, objectList}
+use Rattle.rules.specs.Trace.{Event, objectList}
 use Rattle.rules.specs.Decode as D
 use Rattle.rules.specs.Decode.{Decoded, went, stopped, traceOf}
+use Rattle.rules.proofs.Trace.{objects-append}
 use Rattle.words.proofs.Stores.{sets-append}
 use Rattle.walk_leaves.specs.declared.cursor.Cursor.{Cursor}
 use Rattle.walk_leaves.specs.declared.cursor.Walked.{Walked}
 use Rattle.walk_leaves.specs.declared.cursor.Walked.the-variants.{On, Refused}
 use Rattle.walk_leaves.specs.Doing.{valuesOf, answer, load, Within, Rises, Did}
-
-objects-append : (s t : List Event) → objectList (s ++ t) ≡ objectList s ++ objectList t
-unfolding objectList
-objects-append [] t = refl
-objects-append (claimed kind row offset length ∷ s) t = ap (λ (l : List ℕ). kind ∷ row ∷ offset ∷ length ∷ l) (objects-append s t)
-objects-append (presentHandle at ∷ s) t = objects-append s t
-objects-append (unknownContent bytes handles ∷ s) t = objects-append s t
 
 -- A cursor after so many numbers given.
 abbrev pub moved : Cursor → (next used : ℕ) (values : List ℕ) (trace : List Event) → Cursor
