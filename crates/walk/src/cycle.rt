@@ -65,8 +65,8 @@ pub fn value(
         values: given,
         objects: listed,
     };
-    let kind = words::number_at(rows, row * 4);
-    let a = words::number_at(rows, row * 4 + 1);
+    let kind = table::kind_at(rows, row);
+    let a = table::a_at(rows, row);
     if kind == 1 {
         return boolean(bytes, values, at, c);
     }
@@ -97,13 +97,13 @@ pub fn value(
         if kind == 7 {
             return fill_at(bytes, at, 1, c);
         }
-        let width = words::number_at(rows, a as usize * 4 + 1);
-        let count = words::number_at(rows, row * 4 + 2) as usize;
+        let width = table::a_at(rows, a as usize);
+        let count = table::b_at(rows, row) as usize;
         return Walked::On(numbers(bytes, values, width, count, at, c));
     }
     if kind == 6 {
-        let largest = words::number_at(rows, row * 4 + 2);
-        let optional = words::number_at(rows, row * 4 + 3);
+        let largest = table::b_at(rows, row);
+        let optional = table::c_at(rows, row);
         return string(bytes, values, objects, depth, row, largest, optional, at, c);
     }
     out_of_line(
@@ -141,9 +141,9 @@ fn elements(
     requires { ⌜ Ready (typeTable (now rows) (now members)) (now sizes) (now alignments) depth row × Ask (length (now bytes)) held (count * sizeOf (typeTable (now rows) (now members)) row) at c ⌝ }
     ensures { λ r. ⌜ ElementsDid (typeTable (now (rows .entry)) (now (members .entry))) (now (bytes .entry)) held depth (now (values .entry)) (now (values .exit)) (now (objects .entry)) (now (objects .exit)) at c row count r ⌝ }
 {
-    let kind = words::number_at(rows, row * 4);
+    let kind = table::kind_at(rows, row);
     if kind == 2 {
-        let width = words::number_at(rows, row * 4 + 1);
+        let width = table::a_at(rows, row);
         return Walked::On(numbers(bytes, values, width, count, at, c));
     }
     let size = words::number_at(sizes, row) as usize;
@@ -205,9 +205,9 @@ fn composite(
     ensures { λ r. ⌜ ValueDid (typeTable (now (rows .entry)) (now (members .entry))) (now (bytes .entry)) held depth (now (values .entry)) (now (values .exit)) (now (objects .entry)) (now (objects .exit)) at c row r ⌝ }
 {
     // one of bools and numbers alone goes by a plan, which can be only where its first member is one of them
-    let first = words::number_at(rows, row * 4 + 1) as usize;
-    let part = words::number_at(members, first * 2 + 1) as usize;
-    if words::number_at(rows, part * 4) <= 2 {
+    let first = table::a_at(rows, row) as usize;
+    let part = table::row_of(members, first) as usize;
+    if table::kind_at(rows, part) <= 2 {
         let plan = plans::plan_of(rows, members, alignments, row);
         if 0 < plan.count {
             let size = words::number_at(sizes, row) as usize;
@@ -215,8 +215,8 @@ fn composite(
         }
     }
     // a struct of one member that has no parts itself: the member, and the fill after it
-    if (words::number_at(rows, row * 4) == 7)
-        & (words::number_at(rows, row * 4 + 2) == 1)
+    if (table::kind_at(rows, row) == 7)
+        & (table::b_at(rows, row) == 1)
         & !nesting::has_parts(rows, part)
     {
         match value(
@@ -341,10 +341,10 @@ fn out_of_line(
         × Ask (length (now bytes)) held (sizeOf (typeTable (now rows) (now members)) row) at c ⌝ }
     ensures { λ r. ⌜ ValueDid (typeTable (now (rows .entry)) (now (members .entry))) (now (bytes .entry)) held depth (now (values .entry)) (now (values .exit)) (now (objects .entry)) (now (objects .exit)) at c row r ⌝ }
 {
-    let kind = words::number_at(rows, row * 4);
-    let a = words::number_at(rows, row * 4 + 1) as usize;
-    let b = words::number_at(rows, row * 4 + 2);
-    let form = words::number_at(rows, row * 4 + 3);
+    let kind = table::kind_at(rows, row);
+    let a = table::a_at(rows, row) as usize;
+    let b = table::b_at(rows, row);
+    let form = table::c_at(rows, row);
     if kind == 5 {
         let size = words::number_at(sizes, a) as usize;
         return match vector_opened(bytes, values, objects, depth, row, size, b, form, at, c) {
@@ -452,8 +452,8 @@ fn envelopes(
     requires { ⌜ Ready (typeTable (now rows) (now members)) (now sizes) (now alignments) depth row × (kindAt (typeTable (now rows) (now members)) row ≡ 9) × Ask (length (now bytes)) held (count * 8) at c ⌝ }
     ensures { λ r. ⌜ EnvelopesDid (typeTable (now (rows .entry)) (now (members .entry))) (now (bytes .entry)) held depth (now (values .entry)) (now (values .exit)) (now (objects .entry)) (now (objects .exit)) at c row count r ⌝ }
 {
-    let first = words::number_at(rows, row * 4 + 1) as usize;
-    let known = words::number_at(rows, row * 4 + 2) as usize;
+    let first = table::a_at(rows, row) as usize;
+    let known = table::b_at(rows, row) as usize;
     let mut d = c;
     let mut i: usize = 0;
     while i < count {

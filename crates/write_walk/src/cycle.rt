@@ -65,8 +65,8 @@ pub fn value(
         handles,
         index,
     };
-    let kind = words::number_at(rows, row * 4);
-    let a = words::number_at(rows, row * 4 + 1);
+    let kind = table::kind_at(rows, row);
+    let a = table::a_at(rows, row);
     if kind == 1 {
         return boolean(values, out, at, c);
     }
@@ -97,13 +97,13 @@ pub fn value(
             put_zeros(out, at, 1);
             return Wrote::On(c);
         }
-        let width = words::number_at(rows, a as usize * 4 + 1);
-        let count = words::number_at(rows, row * 4 + 2) as usize;
+        let width = table::a_at(rows, a as usize);
+        let count = table::b_at(rows, row) as usize;
         return numbers(values, out, width, count, at, c);
     }
     if kind == 6 {
-        let largest = words::number_at(rows, row * 4 + 2);
-        let optional = words::number_at(rows, row * 4 + 3);
+        let largest = table::b_at(rows, row);
+        let optional = table::c_at(rows, row);
         return string(values, out, base, depth, largest, optional, at, c);
     }
     out_of_line(
@@ -140,9 +140,9 @@ fn elements(
         × Ask (now values) (count * sizeOf (typeTable (now rows) (now members)) row) at base c ⌝ }
     ensures { λ r. ⌜ ElementsPut (typeTable (now (rows .entry)) (now (members .entry))) (now (values .entry)) (now (out .entry)) (now (out .exit)) base depth at c row count r ⌝ }
 {
-    let kind = words::number_at(rows, row * 4);
+    let kind = table::kind_at(rows, row);
     if kind == 2 {
-        let width = words::number_at(rows, row * 4 + 1);
+        let width = table::a_at(rows, row);
         return numbers(values, out, width, count, at, c);
     }
     let size = words::number_at(sizes, row) as usize;
@@ -201,9 +201,9 @@ fn composite(
     ensures { λ r. ⌜ ValuePut (typeTable (now (rows .entry)) (now (members .entry))) (now (values .entry)) (now (out .entry)) (now (out .exit)) base depth at c row r ⌝ }
 {
     // one of bools and numbers alone goes by a plan, which can be only where its first member is one of them
-    let first = words::number_at(rows, row * 4 + 1) as usize;
-    let part = words::number_at(members, first * 2 + 1) as usize;
-    if words::number_at(rows, part * 4) <= 2 {
+    let first = table::a_at(rows, row) as usize;
+    let part = table::row_of(members, first) as usize;
+    if table::kind_at(rows, part) <= 2 {
         let plan = plans::plan_of(rows, members, alignments, row);
         if 0 < plan.count {
             let size = words::number_at(sizes, row) as usize;
@@ -369,10 +369,10 @@ fn out_of_line(
         × Ask (now values) (sizeOf (typeTable (now rows) (now members)) row) at base c ⌝ }
     ensures { λ r. ⌜ ValuePut (typeTable (now (rows .entry)) (now (members .entry))) (now (values .entry)) (now (out .entry)) (now (out .exit)) base depth at c row r ⌝ }
 {
-    let kind = words::number_at(rows, row * 4);
-    let a = words::number_at(rows, row * 4 + 1) as usize;
-    let b = words::number_at(rows, row * 4 + 2);
-    let form = words::number_at(rows, row * 4 + 3);
+    let kind = table::kind_at(rows, row);
+    let a = table::a_at(rows, row) as usize;
+    let b = table::b_at(rows, row);
+    let form = table::c_at(rows, row);
     if kind == 5 {
         let size = words::number_at(sizes, a) as usize;
         return match vector_opened(values, out, depth, size, b, form, at, c) {
@@ -470,8 +470,8 @@ fn envelopes(
         × Ask (now values) (count * 8) 0 base c ⌝ }
     ensures { λ r. ⌜ EnvelopesPut (typeTable (now (rows .entry)) (now (members .entry))) (now (values .entry)) (now (out .entry)) (now (out .exit)) base depth c row count r ⌝ }
 {
-    let first = words::number_at(rows, row * 4 + 1) as usize;
-    let known = words::number_at(rows, row * 4 + 2) as usize;
+    let first = table::a_at(rows, row) as usize;
+    let known = table::b_at(rows, row) as usize;
     let mut d = c;
     let mut i: usize = 0;
     while i < count {

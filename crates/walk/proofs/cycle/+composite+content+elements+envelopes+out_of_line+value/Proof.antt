@@ -17,6 +17,11 @@ use Rattle.rules.specs.Sizes.{sizeOf}
 use Rattle.rules.specs.Decode as D
 use Rattle.words.proofs.load64.Reads as load64-reads
 use Rattle.words.proofs.number_at.Reads as number-at-reads
+use Rattle.table.proofs.a_at.Reads as a-at-reads
+use Rattle.table.proofs.b_at.Reads as b-at-reads
+use Rattle.table.proofs.c_at.Reads as c-at-reads
+use Rattle.table.proofs.kind_at.Reads as kind-at-reads
+use Rattle.table.proofs.row_of.Reads as row-of-reads
 use Rattle.layout.specs.Ready.{Ready}
 use Rattle.layout.proofs.Readiness.{row-few, row-in-use, row-size, size-small, ready-at}
 use Rattle.ordinals.proofs.Members.{members-rise, ordinal-content, ordinal-fits, vector-in-use, box-in-use, table-members, union-members, union-else}
@@ -140,7 +145,7 @@ value-below t = and 7 value-kinds.ps (falls 7 value-kinds.ps _<_ μ-value t) val
 -- ---- composite: structs and arrays
 
 abbrev composite-calls : ℕ → composite-lts.Claims
-composite-calls t = (number-at-reads.Asked, number-at-reads.Learnt, plan-of-reads.Asked, plan-of-reads.Learnt, planned-reads.Asked, planned-reads.Learnt, has-parts-reads.Asked, has-parts-reads.Learnt, value-below t, value.Post, fill-at-reads.Asked, fill-at-reads.Learnt, next-step-reads.Asked, next-step-reads.Learnt)
+composite-calls t = (a-at-reads.Asked, a-at-reads.Learnt, row-of-reads.Asked, row-of-reads.Learnt, kind-at-reads.Asked, kind-at-reads.Learnt, plan-of-reads.Asked, plan-of-reads.Learnt, number-at-reads.Asked, number-at-reads.Learnt, planned-reads.Asked, planned-reads.Learnt, b-at-reads.Asked, b-at-reads.Learnt, has-parts-reads.Asked, has-parts-reads.Learnt, value-below t, value.Post, fill-at-reads.Asked, fill-at-reads.Learnt, next-step-reads.Asked, next-step-reads.Learnt)
 
 abbrev composite-Inv-loop : composite-lts.InvT-loop
 composite-Inv-loop rows members sizes alignments bytes held values₀ objects₀ depth row at first part kept₀ around₀ level₀ due₀ place₀ d₀ values objects kept around level due place d =
@@ -150,27 +155,12 @@ abbrev composite-μ-loop : composite-lts.MeasureT-loop
 composite-μ-loop rows members sizes alignments bytes held values₀ objects₀ depth row at first part kept₀ around₀ level₀ due₀ place₀ d₀ values objects kept around level due place d =
     fuel rows level due place around
 
-composite-mul-number-at : (t : ℕ) → composite-lts.Need-mul-number-at (composite-calls t) (composite-at t) composite.Post composite-Inv-loop composite-μ-loop
-composite-mul-number-at t c = search needs
-
-composite-add-number-at : (t : ℕ) → composite-lts.Need-add-number-at (composite-calls t) (composite-at t) composite.Post composite-Inv-loop composite-μ-loop
-composite-add-number-at t c = search needs
-
-composite-mul-number-at-2 : (t : ℕ) → composite-lts.Need-mul-number-at-2 (composite-calls t) (composite-at t) composite.Post composite-Inv-loop composite-μ-loop
-composite-mul-number-at-2 t c = search needs
-
-composite-add-number-at-2 : (t : ℕ) → composite-lts.Need-add-number-at-2 (composite-calls t) (composite-at t) composite.Post composite-Inv-loop composite-μ-loop
-composite-add-number-at-2 t c = search needs
-
-composite-mul-number-at-3 : (t : ℕ) → composite-lts.Need-mul-number-at-3 (composite-calls t) (composite-at t) composite.Post composite-Inv-loop composite-μ-loop
-composite-mul-number-at-3 t c = search needs
-
 composite-planned-requires : (t : ℕ) → composite-lts.Need-planned-requires (composite-calls t) (composite-at t) composite.Post composite-Inv-loop composite-μ-loop
 composite-planned-requires t c κs =
     let at-if2 = c .before .before .before in
     let at-plan-of = at-if2 .before .before in
     let start = at-plan-of .before .before .before .before .before .before .before .before .before .before in
-    alone-ask (start .pre .1 .0) (at-plan-of .plan-of .ensures) (at-if2 .if2 .taken) (c .before .number-at4 .ensures) (start .pre .1 .2)
+    alone-ask (start .pre .1 .0) (at-plan-of .plan-of .ensures) (at-if2 .if2 .taken) (c .before .number-at .ensures) (start .pre .1 .2)
 
 composite-returns : (t : ℕ) → composite-lts.Need-returns (composite-calls t) (composite-at t) composite.Post composite-Inv-loop composite-μ-loop
 composite-returns t c =
@@ -179,16 +169,7 @@ composite-returns t c =
     let at-if2 = at-number-at .before .before in
     let at-plan-of = at-if2 .before .before in
     let start = at-plan-of .before .before .before .before .before .before .before .before .before .before in
-    alone-done (start .pre .1 .0) (at-plan-of .plan-of .ensures) (at-if2 .if2 .taken) (at-number-at .number-at4 .ensures) _ _ _ _ _ _ _ _ (start .pre .1 .2) (at-planned .planned .ensures)
-
-composite-mul-number-at-4 : (t : ℕ) → composite-lts.Need-mul-number-at-4 (composite-calls t) (composite-at t) composite.Post composite-Inv-loop composite-μ-loop
-composite-mul-number-at-4 t c = search needs
-
-composite-mul-number-at-5 : (t : ℕ) → composite-lts.Need-mul-number-at-5 (composite-calls t) (composite-at t) composite.Post composite-Inv-loop composite-μ-loop
-composite-mul-number-at-5 t c = search needs
-
-composite-add-number-at-3 : (t : ℕ) → composite-lts.Need-add-number-at-3 (composite-calls t) (composite-at t) composite.Post composite-Inv-loop composite-μ-loop
-composite-add-number-at-3 t c = search needs
+    alone-done (start .pre .1 .0) (at-plan-of .plan-of .ensures) (at-if2 .if2 .taken) (at-number-at .number-at .ensures) _ _ _ _ _ _ _ _ (start .pre .1 .2) (at-planned .planned .ensures)
 
 composite-has-parts-requires : (t : ℕ) → composite-lts.Need-has-parts-requires (composite-calls t) (composite-at t) composite.Post composite-Inv-loop composite-μ-loop
 composite-has-parts-requires t c κs = search needs
@@ -198,23 +179,23 @@ composite-value-requires t c κs =
     let at-if3 = c .before .before in
     let at-number-at = at-if3 .before .before .before .before .before .before in
     let start = at-number-at .before .before .before .before .before .before .before in
-    let one = one-member (start .pre .1 .0) _ (at-if3 .before .before .before .number-at5 .ensures) (at-if3 .before .before .number-at6 .ensures) (at-if3 .if3 .taken) in
-    let k = member-asks (start .pre .1 .0) (start .pre .1 .1) one (at-number-at .before .number-at .ensures) (at-number-at .number-at2 .ensures) (start .pre .1 .2) in
+    let one = one-member (start .pre .1 .0) _ (at-if3 .before .before .before .kind-at2 .ensures) (at-if3 .before .before .b-at .ensures) (at-if3 .if3 .taken) in
+    let k = member-asks (start .pre .1 .0) (start .pre .1 .1) one (at-number-at .before .a-at .ensures) (at-number-at .row-of .ensures) (start .pre .1 .2) in
     (omega (arith, start .pre .0, k .2), (k .0, k .1))
 
 composite-enum-known-d : (t : ℕ) → composite-lts.Need-enum-known-d (composite-calls t) (composite-at t) composite.Post composite-Inv-loop composite-μ-loop
 composite-enum-known-d t c = search needs
 
-composite-number-at-requires-7 : (t : ℕ) → composite-lts.Need-number-at-requires-7 (composite-calls t) (composite-at t) composite.Post composite-Inv-loop composite-μ-loop
-composite-number-at-requires-7 t c κs = search needs
+composite-number-at-requires-2 : (t : ℕ) → composite-lts.Need-number-at-requires-2 (composite-calls t) (composite-at t) composite.Post composite-Inv-loop composite-μ-loop
+composite-number-at-requires-2 t c κs = search needs
 
 composite-add-stop : (t : ℕ) → composite-lts.Need-add-stop (composite-calls t) (composite-at t) composite.Post composite-Inv-loop composite-μ-loop
 composite-add-stop t c =
     let start = c .before .before .before .before .before .before .before .before .before .before .before .before .before .before .before .before .before .before .before .before .before .before .before .before .before in
     omega (arith, start .pre .1 .2 .inside, start .pre .1 .2 .short)
 
-composite-number-at-requires-8 : (t : ℕ) → composite-lts.Need-number-at-requires-8 (composite-calls t) (composite-at t) composite.Post composite-Inv-loop composite-μ-loop
-composite-number-at-requires-8 t c κs = search needs
+composite-number-at-requires-3 : (t : ℕ) → composite-lts.Need-number-at-requires-3 (composite-calls t) (composite-at t) composite.Post composite-Inv-loop composite-μ-loop
+composite-number-at-requires-3 t c κs = search needs
 
 composite-add-fill-at : (t : ℕ) → composite-lts.Need-add-fill-at (composite-calls t) (composite-at t) composite.Post composite-Inv-loop composite-μ-loop
 composite-add-fill-at t c =
@@ -226,16 +207,16 @@ composite-sub-fill-at t c =
     let at-if3 = c .before .before .before .before .before .before .before .before .before .before .before .before .before .before in
     let at-number-at = at-if3 .before .before .before .before .before .before in
     let start = at-number-at .before .before .before .before .before .before .before in
-    let one = one-member (start .pre .1 .0) _ (at-if3 .before .before .before .number-at5 .ensures) (at-if3 .before .before .number-at6 .ensures) (at-if3 .if3 .taken) in
-    fill-asks (start .pre .1 .0) (start .pre .1 .1) one (at-number-at .before .number-at .ensures) (at-number-at .number-at2 .ensures) (start .pre .1 .2) (c .before .before .number-at7 .ensures) (c .number-at8 .ensures) .0
+    let one = one-member (start .pre .1 .0) _ (at-if3 .before .before .before .kind-at2 .ensures) (at-if3 .before .before .b-at .ensures) (at-if3 .if3 .taken) in
+    fill-asks (start .pre .1 .0) (start .pre .1 .1) one (at-number-at .before .a-at .ensures) (at-number-at .row-of .ensures) (start .pre .1 .2) (c .before .before .number-at2 .ensures) (c .number-at3 .ensures) .0
 
 composite-fill-at-requires : (t : ℕ) → composite-lts.Need-fill-at-requires (composite-calls t) (composite-at t) composite.Post composite-Inv-loop composite-μ-loop
 composite-fill-at-requires t c κs =
     let at-if3 = c .before .before .before .before .before .before .before .before .before .before .before .before .before .before in
     let at-number-at = at-if3 .before .before .before .before .before .before in
     let start = at-number-at .before .before .before .before .before .before .before in
-    let one = one-member (start .pre .1 .0) _ (at-if3 .before .before .before .number-at5 .ensures) (at-if3 .before .before .number-at6 .ensures) (at-if3 .if3 .taken) in
-    omega (arith, fill-asks (start .pre .1 .0) (start .pre .1 .1) one (at-number-at .before .number-at .ensures) (at-number-at .number-at2 .ensures) (start .pre .1 .2) (c .before .before .number-at7 .ensures) (c .number-at8 .ensures))
+    let one = one-member (start .pre .1 .0) _ (at-if3 .before .before .before .kind-at2 .ensures) (at-if3 .before .before .b-at .ensures) (at-if3 .if3 .taken) in
+    omega (arith, fill-asks (start .pre .1 .0) (start .pre .1 .1) one (at-number-at .before .a-at .ensures) (at-number-at .row-of .ensures) (start .pre .1 .2) (c .before .before .number-at2 .ensures) (c .number-at3 .ensures))
 
 composite-same-length-2 : (t : ℕ) → composite-lts.Need-same-length-2 (composite-calls t) (composite-at t) composite.Post composite-Inv-loop composite-μ-loop
 composite-same-length-2 t c = search needs
@@ -248,8 +229,8 @@ composite-returns-2 t c =
     let at-if3 = c .before .before .before .before .before .before .before .before .before .before .before .before .before .before .before in
     let at-number-at = at-if3 .before .before .before .before .before .before in
     let start = at-number-at .before .before .before .before .before .before .before in
-    let one = one-member (start .pre .1 .0) _ (at-if3 .before .before .before .number-at5 .ensures) (at-if3 .before .before .number-at6 .ensures) (at-if3 .if3 .taken) in
-    member-filled (start .pre .1 .0) (start .pre .1 .1) one (at-number-at .before .number-at .ensures) (at-number-at .number-at2 .ensures) _ _ _ _ _ _ _ _ (start .pre .1 .2) (c .before .before .before .before .before .before .before .before .before .before .before .before .value .ensures) (c .before .before .before .before .before .before .d .given .1) (c .before .before .before .number-at7 .ensures) (c .before .number-at8 .ensures) _ (c .fill-at .ensures)
+    let one = one-member (start .pre .1 .0) _ (at-if3 .before .before .before .kind-at2 .ensures) (at-if3 .before .before .b-at .ensures) (at-if3 .if3 .taken) in
+    member-filled (start .pre .1 .0) (start .pre .1 .1) one (at-number-at .before .a-at .ensures) (at-number-at .row-of .ensures) _ _ _ _ _ _ _ _ (start .pre .1 .2) (c .before .before .before .before .before .before .before .before .before .before .before .before .value .ensures) (c .before .before .before .before .before .before .d .given .1) (c .before .before .before .number-at2 .ensures) (c .before .number-at3 .ensures) _ (c .fill-at .ensures)
 
 composite-enum-known-f : (t : ℕ) → composite-lts.Need-enum-known-f (composite-calls t) (composite-at t) composite.Post composite-Inv-loop composite-μ-loop
 composite-enum-known-f t c = search needs
@@ -265,8 +246,8 @@ composite-returns-3 t c =
     let at-if3 = c .before .before .before .before .before .before .before .before .before .before in
     let at-number-at = at-if3 .before .before .before .before .before .before in
     let start = at-number-at .before .before .before .before .before .before .before in
-    let one = one-member (start .pre .1 .0) _ (at-if3 .before .before .before .number-at5 .ensures) (at-if3 .before .before .number-at6 .ensures) (at-if3 .if3 .taken) in
-    member-refused (start .pre .1 .0) (start .pre .1 .1) one (at-number-at .before .number-at .ensures) (at-number-at .number-at2 .ensures) _ _ _ _ _ _ _ _ (start .pre .1 .2) (c .before .before .before .before .before .before .before .value .ensures) (c .before .f .given .1)
+    let one = one-member (start .pre .1 .0) _ (at-if3 .before .before .before .kind-at2 .ensures) (at-if3 .before .before .b-at .ensures) (at-if3 .if3 .taken) in
+    member-refused (start .pre .1 .0) (start .pre .1 .1) one (at-number-at .before .a-at .ensures) (at-number-at .row-of .ensures) _ _ _ _ _ _ _ _ (start .pre .1 .2) (c .before .before .before .before .before .before .before .value .ensures) (c .before .f .given .1)
 
 composite-loop-holds : (t : ℕ) → composite-lts.Need-loop-holds (composite-calls t) (composite-at t) composite.Post composite-Inv-loop composite-μ-loop
 composite-loop-holds t c = (c .before .before .before .before .before .before .before .before .before .before .before .before .before .pre .1 .0, walking-start (c .before .before .before .before .before .before .before .before .before .before .before .before .before .pre .1 .0) _ _ refl (c .before .before .before .before .before .before .before .before .before .before .before .before .before .pre .1 .1) (c .before .before .before .before .before .before .before .before .before .before .before .before .before .pre .1 .2))
@@ -338,12 +319,12 @@ composite-add-place t c =
 composite-loop-less-3 : (t : ℕ) → composite-lts.Need-loop-less-3 (composite-calls t) (composite-at t) composite.Post composite-Inv-loop composite-μ-loop
 composite-loop-less-3 t c =
     let loop = c .before .before .before .before .before .before .before .before .before .before .before .before .before .before .before .before .loop in
-    turn-called (loop .inv .0) (loop .inv .1) (c .before .before .before .before .before .before .before .before .before .before .before .before .before .before .before .next-step .ensures) (c .before .before .before .before .before .before .before .before .before .before .before .before .before .part2 .given .1) (c .before .before .before .before .before .before .before .before .before .value2 .ensures) (c .before .before .before .e2 .given .1) (c .number-at9 .ensures) .1
+    turn-called (loop .inv .0) (loop .inv .1) (c .before .before .before .before .before .before .before .before .before .before .before .before .before .before .before .next-step .ensures) (c .before .before .before .before .before .before .before .before .before .before .before .before .before .part2 .given .1) (c .before .before .before .before .before .before .before .before .before .value2 .ensures) (c .before .before .before .e2 .given .1) (c .number-at4 .ensures) .1
 
 composite-loop-again-3 : (t : ℕ) → composite-lts.Need-loop-again-3 (composite-calls t) (composite-at t) composite.Post composite-Inv-loop composite-μ-loop
 composite-loop-again-3 t c =
     let loop = c .before .before .before .before .before .before .before .before .before .before .before .before .before .before .before .before .loop in
-    (loop .inv .0, turn-called (loop .inv .0) (loop .inv .1) (c .before .before .before .before .before .before .before .before .before .before .before .before .before .before .before .next-step .ensures) (c .before .before .before .before .before .before .before .before .before .before .before .before .before .part2 .given .1) (c .before .before .before .before .before .before .before .before .before .value2 .ensures) (c .before .before .before .e2 .given .1) (c .number-at9 .ensures) .0)
+    (loop .inv .0, turn-called (loop .inv .0) (loop .inv .1) (c .before .before .before .before .before .before .before .before .before .before .before .before .before .before .before .next-step .ensures) (c .before .before .before .before .before .before .before .before .before .before .before .before .before .part2 .given .1) (c .before .before .before .before .before .before .before .before .before .value2 .ensures) (c .before .before .before .e2 .given .1) (c .number-at4 .ensures) .0)
 
 composite-enum-known-f-3 : (t : ℕ) → composite-lts.Need-enum-known-f-3 (composite-calls t) (composite-at t) composite.Post composite-Inv-loop composite-μ-loop
 composite-enum-known-f-3 t c = search needs
@@ -446,7 +427,7 @@ content-returns-5 t c = search (needs, content-refused, c .before .before .befor
 -- ---- elements: a vector's elements
 
 abbrev elements-calls : ℕ → elements-lts.Claims
-elements-calls t = (number-at-reads.Asked, number-at-reads.Learnt, numbers-reads.Asked, numbers-reads.Learnt, plan-of-reads.Asked, plan-of-reads.Learnt, planned-reads.Asked, planned-reads.Learnt, value-below t, value.Post)
+elements-calls t = (kind-at-reads.Asked, kind-at-reads.Learnt, a-at-reads.Asked, a-at-reads.Learnt, numbers-reads.Asked, numbers-reads.Learnt, number-at-reads.Asked, number-at-reads.Learnt, plan-of-reads.Asked, plan-of-reads.Learnt, planned-reads.Asked, planned-reads.Learnt, value-below t, value.Post)
 
 abbrev elements-Inv-loop : elements-lts.InvT-loop
 elements-Inv-loop rows members sizes alignments bytes held values₀ objects₀ depth row count at kind size d₀ place₀ left₀ values objects d place left =
@@ -464,16 +445,16 @@ elements-numbers-requires t c κs =
     let at-if1 = at-number-at2 .before in
     let at-number-at = at-if1 .before in
     let start = at-number-at .before .before .before .before .before .before in
-    numbers-ask (start .pre .1 .0) (at-number-at .number-at .ensures) (at-if1 .if1 .taken) (at-number-at2 .number-at2 .ensures) _ (start .pre .1 .1)
+    numbers-ask (start .pre .1 .0) (at-number-at .kind-at .ensures) (at-if1 .if1 .taken) (at-number-at2 .a-at .ensures) _ (start .pre .1 .1)
 
 elements-returns : (t : ℕ) → elements-lts.Need-returns (elements-calls t) (elements-at t) elements.Post elements-Inv-loop elements-μ-loop
 elements-returns t c = search (needs, numbers-done)
 
 elements-planned-requires : (t : ℕ) → elements-lts.Need-planned-requires (elements-calls t) (elements-at t) elements.Post elements-Inv-loop elements-μ-loop
-elements-planned-requires t c κs = planned-ask (c .before .before .before .before .before .before .before .before .before .before .before .before .before .pre .1 .0) (c .before .before .before .plan-of .ensures) (c .before .if2 .taken) (c .before .before .before .before .number-at3 .ensures) _ (c .before .before .before .before .before .before .before .before .before .before .before .before .before .pre .1 .1)
+elements-planned-requires t c κs = planned-ask (c .before .before .before .before .before .before .before .before .before .before .before .before .before .pre .1 .0) (c .before .before .before .plan-of .ensures) (c .before .if2 .taken) (c .before .before .before .before .number-at .ensures) _ (c .before .before .before .before .before .before .before .before .before .before .before .before .before .pre .1 .1)
 
 elements-returns-2 : (t : ℕ) → elements-lts.Need-returns-2 (elements-calls t) (elements-at t) elements.Post elements-Inv-loop elements-μ-loop
-elements-returns-2 t c = planned-done (c .before .before .before .before .before .before .before .before .before .before .before .before .before .before .before .before .pre .1 .0) (c .before .before .before .before .before .before .plan-of .ensures) (c .before .before .before .before .if2 .taken) (c .before .before .before .before .before .before .before .number-at3 .ensures) _ _ _ _ _ _ _ _ _ (c .before .before .before .before .before .before .before .before .before .before .before .before .before .before .before .before .pre .1 .1) (c .before .before .planned .ensures)
+elements-returns-2 t c = planned-done (c .before .before .before .before .before .before .before .before .before .before .before .before .before .before .before .before .pre .1 .0) (c .before .before .before .before .before .before .plan-of .ensures) (c .before .before .before .before .if2 .taken) (c .before .before .before .before .before .before .before .number-at .ensures) _ _ _ _ _ _ _ _ _ (c .before .before .before .before .before .before .before .before .before .before .before .before .before .before .before .before .pre .1 .1) (c .before .before .planned .ensures)
 
 elements-value-requires : (t : ℕ) → elements-lts.Need-value-requires (elements-calls t) (elements-at t) elements.Post elements-Inv-loop elements-μ-loop
 elements-value-requires t c κs = (omega (arith, c .before .before .before .before .before .before .before .before .before .before .before .before .before .before .before .before .pre .0), (search needs, search (needs, run-asks)))
@@ -484,7 +465,7 @@ elements-returns-3 t c = search (needs, run-stopped, c .before .before .before .
 elements-loop-again : (t : ℕ) → elements-lts.Need-loop-again (elements-calls t) (elements-at t) elements.Post elements-Inv-loop elements-μ-loop
 elements-loop-again t c =
     let r = c .before .before .before .before .before .before .before .before .before .before .before .before .before .before .before .before .before .before .before .before .before .before .before .before .pre .1 .0 in
-    (run-next (c .before .before .before .before .before .before .before .before .before .before .before .loop .inv .0) (c .before .before .before .before .before .before .before .before .before .before .loop-test .taken) (c .before .before .before .before .before .before .before .value .ensures) (row-size r _ (r .in-use) (c .before .before .before .before .before .before .before .before .before .before .before .before .before .before .before .number-at3 .ensures)) (c .before .e .given .1), search needs, search needs)
+    (run-next (c .before .before .before .before .before .before .before .before .before .before .before .loop .inv .0) (c .before .before .before .before .before .before .before .before .before .before .loop-test .taken) (c .before .before .before .before .before .before .before .value .ensures) (row-size r _ (r .in-use) (c .before .before .before .before .before .before .before .before .before .before .before .before .before .before .before .number-at .ensures)) (c .before .e .given .1), search needs, search needs)
 
 elements-returns-4 : (t : ℕ) → elements-lts.Need-returns-4 (elements-calls t) (elements-at t) elements.Post elements-Inv-loop elements-μ-loop
 elements-returns-4 t c = search (needs, run-end)
@@ -492,7 +473,7 @@ elements-returns-4 t c = search (needs, run-end)
 -- ---- envelopes: a table's envelopes
 
 abbrev envelopes-calls : ℕ → envelopes-lts.Claims
-envelopes-calls t = (number-at-reads.Asked, number-at-reads.Learnt, load64-reads.Asked, load64-reads.Learnt, refused-reads.Asked, refused-reads.Learnt, gave-reads.Asked, gave-reads.Learnt, ordinal-of-reads.Asked, ordinal-of-reads.Learnt, content-below t, content.Post)
+envelopes-calls t = (a-at-reads.Asked, a-at-reads.Learnt, b-at-reads.Asked, b-at-reads.Learnt, load64-reads.Asked, load64-reads.Learnt, refused-reads.Asked, refused-reads.Learnt, gave-reads.Asked, gave-reads.Learnt, ordinal-of-reads.Asked, ordinal-of-reads.Learnt, content-below t, content.Post)
 
 abbrev envelopes-Inv-loop : envelopes-lts.InvT-loop
 envelopes-Inv-loop rows members sizes alignments bytes held values₀ objects₀ depth row count at first known d₀ i₀ values objects d i =
@@ -521,7 +502,7 @@ envelopes-content-requires t c κs =
     let at-number-at2 = at-loop .before in
     let at-number-at = at-number-at2 .before in
     let start = at-number-at .before .before .before .before .before .before in
-    let m = table-members (start .pre .1 .0) refl (at-number-at .number-at .ensures) (at-number-at2 .number-at2 .ensures) (start .pre .1 .1) in
+    let m = table-members (start .pre .1 .0) refl (at-number-at .a-at .ensures) (at-number-at2 .b-at .ensures) (start .pre .1 .1) in
     (omega (arith, start .pre .0), (start .pre .1 .0, ordinal-fits m _ (at-ordinal-of .ordinal-of .result) (ordinal-content m _ (at-ordinal-of .ordinal-of .result) (at-ordinal-of .ordinal-of .ensures)), content-asks _ _ _ _ _ _ _ _ _ _ (at-loop .loop .inv .0) (at-loop-test .loop-test .taken) (at-gave2 .gave2 .ensures .1)))
 
 envelopes-loop-again-2 : (t : ℕ) → envelopes-lts.Need-loop-again-2 (envelopes-calls t) (envelopes-at t) envelopes.Post envelopes-Inv-loop envelopes-μ-loop
@@ -537,9 +518,9 @@ envelopes-loop-again-2 t c =
     let at-number-at2 = at-loop .before in
     let at-number-at = at-number-at2 .before in
     let start = at-number-at .before .before .before .before .before .before in
-    let m = table-members (start .pre .1 .0) refl (at-number-at .number-at .ensures) (at-number-at2 .number-at2 .ensures) (start .pre .1 .1) in
-    let lengths = one-lengths _ _ _ _ _ _ _ _ _ _ (at-loop .loop .inv .0) (at-loop-test .loop-test .taken) (at-load64 .load64 .ensures) (at-ordinal-of .ordinal-of .result) (at-if1 .if1 .left) (at-number-at .number-at .ensures) (at-number-at2 .number-at2 .ensures) m (at-ordinal-of .ordinal-of .ensures) (at-gave2 .gave2 .ensures) (at-content .content .ensures) in
-    (one-present _ _ _ _ _ _ _ _ _ _ (at-loop .loop .inv .0) (at-loop-test .loop-test .taken) (at-load64 .load64 .ensures) (at-ordinal-of .ordinal-of .result) (at-if1 .if1 .left) (at-number-at .number-at .ensures) (at-number-at2 .number-at2 .ensures) m (at-ordinal-of .ordinal-of .ensures) (at-gave2 .gave2 .ensures) (at-content .content .ensures) (at-f .f .given .1), omega (arith, at-loop-test .loop-test .taken), lengths .0 ∙ at-loop .loop .inv .2, lengths .1 ∙ at-loop .loop .inv .3)
+    let m = table-members (start .pre .1 .0) refl (at-number-at .a-at .ensures) (at-number-at2 .b-at .ensures) (start .pre .1 .1) in
+    let lengths = one-lengths _ _ _ _ _ _ _ _ _ _ (at-loop .loop .inv .0) (at-loop-test .loop-test .taken) (at-load64 .load64 .ensures) (at-ordinal-of .ordinal-of .result) (at-if1 .if1 .left) (at-number-at .a-at .ensures) (at-number-at2 .b-at .ensures) m (at-ordinal-of .ordinal-of .ensures) (at-gave2 .gave2 .ensures) (at-content .content .ensures) in
+    (one-present _ _ _ _ _ _ _ _ _ _ (at-loop .loop .inv .0) (at-loop-test .loop-test .taken) (at-load64 .load64 .ensures) (at-ordinal-of .ordinal-of .result) (at-if1 .if1 .left) (at-number-at .a-at .ensures) (at-number-at2 .b-at .ensures) m (at-ordinal-of .ordinal-of .ensures) (at-gave2 .gave2 .ensures) (at-content .content .ensures) (at-f .f .given .1), omega (arith, at-loop-test .loop-test .taken), lengths .0 ∙ at-loop .loop .inv .2, lengths .1 ∙ at-loop .loop .inv .3)
 
 envelopes-returns-2 : (t : ℕ) → envelopes-lts.Need-returns-2 (envelopes-calls t) (envelopes-at t) envelopes.Post envelopes-Inv-loop envelopes-μ-loop
 envelopes-returns-2 t c =
@@ -554,8 +535,8 @@ envelopes-returns-2 t c =
     let at-number-at2 = at-loop .before in
     let at-number-at = at-number-at2 .before in
     let start = at-number-at .before .before .before .before .before .before in
-    let m = table-members (start .pre .1 .0) refl (at-number-at .number-at .ensures) (at-number-at2 .number-at2 .ensures) (start .pre .1 .1) in
-    one-refused _ _ _ _ _ _ _ _ _ _ (at-loop .loop .inv .0) (at-loop-test .loop-test .taken) (at-load64 .load64 .ensures) (at-ordinal-of .ordinal-of .result) (at-if1 .if1 .left) (at-number-at .number-at .ensures) (at-number-at2 .number-at2 .ensures) m (at-ordinal-of .ordinal-of .ensures) (at-gave2 .gave2 .ensures) (at-content .content .ensures) (at-f2 .f2 .given .1)
+    let m = table-members (start .pre .1 .0) refl (at-number-at .a-at .ensures) (at-number-at2 .b-at .ensures) (start .pre .1 .1) in
+    one-refused _ _ _ _ _ _ _ _ _ _ (at-loop .loop .inv .0) (at-loop-test .loop-test .taken) (at-load64 .load64 .ensures) (at-ordinal-of .ordinal-of .result) (at-if1 .if1 .left) (at-number-at .a-at .ensures) (at-number-at2 .b-at .ensures) m (at-ordinal-of .ordinal-of .ensures) (at-gave2 .gave2 .ensures) (at-content .content .ensures) (at-f2 .f2 .given .1)
 
 envelopes-returns-3 : (t : ℕ) → envelopes-lts.Need-returns-3 (envelopes-calls t) (envelopes-at t) envelopes.Post envelopes-Inv-loop envelopes-μ-loop
 envelopes-returns-3 t c = search (needs, envelopes-end)
@@ -563,7 +544,7 @@ envelopes-returns-3 t c = search (needs, envelopes-end)
 -- ---- out_of_line: vector, box, table and union
 
 abbrev out-of-line-calls : ℕ → out-of-line-lts.Claims
-out-of-line-calls t = (number-at-reads.Asked, number-at-reads.Learnt, vector-opened-reads.Asked, vector-opened-reads.Learnt, elements-below t, elements.Post, passed-on-reads.Asked, passed-on-reads.Learnt, box-opened-reads.Asked, box-opened-reads.Learnt, value-below t, value.Post, table-opened-reads.Asked, table-opened-reads.Learnt, envelopes-below t, envelopes.Post, union-member-reads.Asked, union-member-reads.Learnt, content-below t, content.Post)
+out-of-line-calls t = (kind-at-reads.Asked, kind-at-reads.Learnt, a-at-reads.Asked, a-at-reads.Learnt, b-at-reads.Asked, b-at-reads.Learnt, c-at-reads.Asked, c-at-reads.Learnt, number-at-reads.Asked, number-at-reads.Learnt, vector-opened-reads.Asked, vector-opened-reads.Learnt, elements-below t, elements.Post, passed-on-reads.Asked, passed-on-reads.Learnt, box-opened-reads.Asked, box-opened-reads.Learnt, value-below t, value.Post, table-opened-reads.Asked, table-opened-reads.Learnt, envelopes-below t, envelopes.Post, union-member-reads.Asked, union-member-reads.Learnt, content-below t, content.Post)
 
 out-of-line-vector-opened-requires : (t : ℕ) → out-of-line-lts.Need-vector-opened-requires (out-of-line-calls t) (out-of-line-at t) out-of-line.Post
 out-of-line-vector-opened-requires t c κs =
@@ -573,8 +554,8 @@ out-of-line-vector-opened-requires t c κs =
     let at-number-at = at-number-at2 .before in
     let start = at-number-at .before .before .before .before .before .before in
     let r = start .pre .1 .0 in
-    let h = vector-in-use r (at-number-at .number-at .ensures) (at-number-at2 .number-at2 .ensures) (at-if1 .if1 .taken) in
-    (ask-bytes (vector-record _ _ (at-number-at .number-at .ensures) (start .pre .1 .2) (at-if1 .if1 .taken)), omega (arith, row-few r), size-small r _ h (at-number-at5 .number-at5 .ensures))
+    let h = vector-in-use r (at-number-at .kind-at .ensures) (at-number-at2 .a-at .ensures) (at-if1 .if1 .taken) in
+    (ask-bytes (vector-record _ _ (at-number-at .kind-at .ensures) (start .pre .1 .2) (at-if1 .if1 .taken)), omega (arith, row-few r), size-small r _ h (at-number-at5 .number-at .ensures))
 
 out-of-line-sub-elements : (t : ℕ) → out-of-line-lts.Need-sub-elements (out-of-line-calls t) (out-of-line-at t) out-of-line.Post
 out-of-line-sub-elements t c = search (needs, level-left)
@@ -591,9 +572,9 @@ out-of-line-elements-requires t c κs =
     let at-number-at = at-number-at2 .before in
     let start = at-number-at .before .before .before .before .before .before in
     let r = start .pre .1 .0 in
-    let h = vector-in-use r (at-number-at .number-at .ensures) (at-number-at2 .number-at2 .ensures) (at-if1 .if1 .taken) in
+    let h = vector-in-use r (at-number-at .kind-at .ensures) (at-number-at2 .a-at .ensures) (at-if1 .if1 .taken) in
     let l = level-left _ _ (at-vector-opened .vector-opened .ensures .1) (at-x .x .given .1) in
-    let asks = vector-asks (typeTable (start .args .rows .now) (start .args .members .now)) (start .args .bytes .now) _ _ _ _ _ _ _ _ _ _ (at-number-at .number-at .ensures) (start .pre .1 .2) (at-if1 .if1 .taken) (at-number-at2 .number-at2 .ensures) (at-number-at3 .number-at3 .ensures) (at-number-at4 .number-at4 .ensures) (start .pre .1 .0) (at-number-at5 .number-at5 .ensures) (at-vector-opened .vector-opened .ensures .0) (at-x .x .given .1) in
+    let asks = vector-asks (typeTable (start .args .rows .now) (start .args .members .now)) (start .args .bytes .now) _ _ _ _ _ _ _ _ _ _ (at-number-at .kind-at .ensures) (start .pre .1 .2) (at-if1 .if1 .taken) (at-number-at2 .a-at .ensures) (at-number-at3 .b-at .ensures) (at-number-at4 .c-at .ensures) (start .pre .1 .0) (at-number-at5 .number-at .ensures) (at-vector-opened .vector-opened .ensures .0) (at-x .x .given .1) in
     (omega (arith, start .pre .0, row-in-use r _ h, elements-few r _ h _ asks, l), (ready-at r _ _ (omega arith) h, asks))
 
 out-of-line-returns : (t : ℕ) → out-of-line-lts.Need-returns (out-of-line-calls t) (out-of-line-at t) out-of-line.Post
@@ -614,7 +595,7 @@ out-of-line-returns-3 t c =
     let at-number-at2 = at-number-at3 .before in
     let at-number-at = at-number-at2 .before in
     let start = at-number-at .before .before .before .before .before .before in
-    rw (c .passed-on .ensures) (vector-done _ _ _ _ _ _ _ _ _ _ _ _ (at-number-at .number-at .ensures) (start .pre .1 .2) (at-if1 .if1 .taken) (at-number-at2 .number-at2 .ensures) (at-number-at3 .number-at3 .ensures) (at-number-at4 .number-at4 .ensures) (start .pre .1 .0) (at-number-at5 .number-at5 .ensures) (at-vector-opened .vector-opened .ensures .0) (at-x .x .given .1) (at-elements .elements .ensures))
+    rw (c .passed-on .ensures) (vector-done _ _ _ _ _ _ _ _ _ _ _ _ (at-number-at .kind-at .ensures) (start .pre .1 .2) (at-if1 .if1 .taken) (at-number-at2 .a-at .ensures) (at-number-at3 .b-at .ensures) (at-number-at4 .c-at .ensures) (start .pre .1 .0) (at-number-at5 .number-at .ensures) (at-vector-opened .vector-opened .ensures .0) (at-x .x .given .1) (at-elements .elements .ensures))
 
 out-of-line-box-opened-requires : (t : ℕ) → out-of-line-lts.Need-box-opened-requires (out-of-line-calls t) (out-of-line-at t) out-of-line.Post
 out-of-line-box-opened-requires t c κs =
@@ -624,8 +605,8 @@ out-of-line-box-opened-requires t c κs =
     let at-number-at = at-number-at2 .before in
     let start = at-number-at .before .before .before .before .before .before in
     let r = start .pre .1 .0 in
-    let h = box-in-use r (at-number-at .number-at .ensures) (at-number-at2 .number-at2 .ensures) (at-if2 .if2 .taken) in
-    (ask-bytes (box-record _ _ (at-number-at .number-at .ensures) (start .pre .1 .2) (at-if2 .if2 .taken)), omega (arith, row-in-use r _ h), size-small r _ h (at-number-at6 .number-at6 .ensures))
+    let h = box-in-use r (at-number-at .kind-at .ensures) (at-number-at2 .a-at .ensures) (at-if2 .if2 .taken) in
+    (ask-bytes (box-record _ _ (at-number-at .kind-at .ensures) (start .pre .1 .2) (at-if2 .if2 .taken)), omega (arith, row-in-use r _ h), size-small r _ h (at-number-at6 .number-at2 .ensures))
 
 out-of-line-sub-value : (t : ℕ) → out-of-line-lts.Need-sub-value (out-of-line-calls t) (out-of-line-at t) out-of-line.Post
 out-of-line-sub-value t c = search (needs, level-left)
@@ -640,9 +621,9 @@ out-of-line-value-requires t c κs =
     let at-number-at = at-number-at2 .before in
     let start = at-number-at .before .before .before .before .before .before in
     let r = start .pre .1 .0 in
-    let h = box-in-use r (at-number-at .number-at .ensures) (at-number-at2 .number-at2 .ensures) (at-if2 .if2 .taken) in
+    let h = box-in-use r (at-number-at .kind-at .ensures) (at-number-at2 .a-at .ensures) (at-if2 .if2 .taken) in
     let l = level-left _ _ (at-box-opened .box-opened .ensures .1) (at-x2 .x2 .given .1) in
-    (omega (arith, start .pre .0, row-in-use r _ h, l), (ready-at r _ _ (omega arith) h, box-asks (typeTable (start .args .rows .now) (start .args .members .now)) (start .args .bytes .now) _ _ _ _ _ _ _ _ _ _ (at-number-at .number-at .ensures) (start .pre .1 .2) (at-if2 .if2 .taken) (at-number-at2 .number-at2 .ensures) (start .pre .1 .0) (at-number-at6 .number-at6 .ensures) (at-box-opened .box-opened .ensures .0) (at-x2 .x2 .given .1)))
+    (omega (arith, start .pre .0, row-in-use r _ h, l), (ready-at r _ _ (omega arith) h, box-asks (typeTable (start .args .rows .now) (start .args .members .now)) (start .args .bytes .now) _ _ _ _ _ _ _ _ _ _ (at-number-at .kind-at .ensures) (start .pre .1 .2) (at-if2 .if2 .taken) (at-number-at2 .a-at .ensures) (start .pre .1 .0) (at-number-at6 .number-at2 .ensures) (at-box-opened .box-opened .ensures .0) (at-x2 .x2 .given .1)))
 
 out-of-line-returns-4 : (t : ℕ) → out-of-line-lts.Need-returns-4 (out-of-line-calls t) (out-of-line-at t) out-of-line.Post
 out-of-line-returns-4 t c = search (needs, box-absent, c .before .before .before .before .before .before .before .before .before .before .before .before .before .before .before .before .before .before .before .before .before .before .before .pre .1 .0, c .before .before .before .before .before .before .before .before .before .before .before .before .before .before .before .before .before .before .before .before .before .before .before .pre .1 .2)
@@ -660,14 +641,14 @@ out-of-line-returns-6 t c =
     let at-number-at2 = at-if2 .before .before .before .before in
     let at-number-at = at-number-at2 .before in
     let start = at-number-at .before .before .before .before .before .before in
-    rw (c .passed-on2 .ensures) (box-done _ _ _ _ _ _ _ _ _ _ _ _ (at-number-at .number-at .ensures) (start .pre .1 .2) (at-if2 .if2 .taken) (at-number-at2 .number-at2 .ensures) (start .pre .1 .0) (at-number-at6 .number-at6 .ensures) (at-box-opened .box-opened .ensures .0) (at-x2 .x2 .given .1) (at-value .value .ensures))
+    rw (c .passed-on2 .ensures) (box-done _ _ _ _ _ _ _ _ _ _ _ _ (at-number-at .kind-at .ensures) (start .pre .1 .2) (at-if2 .if2 .taken) (at-number-at2 .a-at .ensures) (start .pre .1 .0) (at-number-at6 .number-at2 .ensures) (at-box-opened .box-opened .ensures .0) (at-x2 .x2 .given .1) (at-value .value .ensures))
 
 out-of-line-table-opened-requires : (t : ℕ) → out-of-line-lts.Need-table-opened-requires (out-of-line-calls t) (out-of-line-at t) out-of-line.Post
 out-of-line-table-opened-requires t c κs =
     let at-if3 = c .before .before in
     let at-number-at = at-if3 .before .before .before .before .before .before in
     let start = at-number-at .before .before .before .before .before .before in
-    (ask-bytes (table-record _ _ (at-number-at .number-at .ensures) (start .pre .1 .2) (at-if3 .if3 .taken)), omega (arith, row-few (start .pre .1 .0)))
+    (ask-bytes (table-record _ _ (at-number-at .kind-at .ensures) (start .pre .1 .2) (at-if3 .if3 .taken)), omega (arith, row-few (start .pre .1 .0)))
 
 out-of-line-sub-envelopes : (t : ℕ) → out-of-line-lts.Need-sub-envelopes (out-of-line-calls t) (out-of-line-at t) out-of-line.Post
 out-of-line-sub-envelopes t c = search (needs, level-left)
@@ -681,8 +662,8 @@ out-of-line-envelopes-requires t c κs =
     let start = at-number-at .before .before .before .before .before .before in
     let r = start .pre .1 .0 in
     let l = level-left _ _ (at-table-opened .table-opened .ensures .1) (at-x3 .x3 .given .1) in
-    let asks = table-asks (typeTable (start .args .rows .now) (start .args .members .now)) (start .args .bytes .now) _ _ _ _ _ _ _ _ _ _ (at-number-at .number-at .ensures) (start .pre .1 .2) (at-if3 .if3 .taken) (start .pre .1 .0) (at-table-opened .table-opened .ensures .0) (at-x3 .x3 .given .1) in
-    (omega (arith, start .pre .0, asks .inside, asks .short, l), (ready-at r _ _ (omega arith) (r .in-use), sym (at-number-at .number-at .ensures) ∙ at-if3 .if3 .taken, asks))
+    let asks = table-asks (typeTable (start .args .rows .now) (start .args .members .now)) (start .args .bytes .now) _ _ _ _ _ _ _ _ _ _ (at-number-at .kind-at .ensures) (start .pre .1 .2) (at-if3 .if3 .taken) (start .pre .1 .0) (at-table-opened .table-opened .ensures .0) (at-x3 .x3 .given .1) in
+    (omega (arith, start .pre .0, asks .inside, asks .short, l), (ready-at r _ _ (omega arith) (r .in-use), sym (at-number-at .kind-at .ensures) ∙ at-if3 .if3 .taken, asks))
 
 out-of-line-returns-7 : (t : ℕ) → out-of-line-lts.Need-returns-7 (out-of-line-calls t) (out-of-line-at t) out-of-line.Post
 out-of-line-returns-7 t c = search (needs, table-closed)
@@ -698,7 +679,7 @@ out-of-line-returns-9 t c =
     let at-if3 = at-table-opened .before .before .before in
     let at-number-at = at-if3 .before .before .before .before .before .before in
     let start = at-number-at .before .before .before .before .before .before in
-    rw (c .passed-on3 .ensures) (table-done _ _ _ _ _ _ _ _ _ _ _ _ (at-number-at .number-at .ensures) (start .pre .1 .2) (at-if3 .if3 .taken) (start .pre .1 .0) (at-table-opened .table-opened .ensures .0) (at-x3 .x3 .given .1) (at-envelopes .envelopes .ensures))
+    rw (c .passed-on3 .ensures) (table-done _ _ _ _ _ _ _ _ _ _ _ _ (at-number-at .kind-at .ensures) (start .pre .1 .2) (at-if3 .if3 .taken) (start .pre .1 .0) (at-table-opened .table-opened .ensures .0) (at-x3 .x3 .given .1) (at-envelopes .envelopes .ensures))
 
 out-of-line-union-member-requires : (t : ℕ) → out-of-line-lts.Need-union-member-requires (out-of-line-calls t) (out-of-line-at t) out-of-line.Post
 out-of-line-union-member-requires t c κs =
@@ -711,9 +692,9 @@ out-of-line-union-member-requires t c κs =
     let at-number-at = at-number-at2 .before in
     let start = at-number-at .before .before .before .before .before .before in
     let r = start .pre .1 .0 in
-    let q = union-else r (at-number-at .number-at .ensures) (start .pre .1 .1) (at-if1 .if1 .left) (at-if2 .if2 .left) (at-if3 .if3 .left) in
-    let m = union-members r (at-number-at .number-at .ensures) (at-number-at2 .number-at2 .ensures) (at-number-at3 .number-at3 .ensures) q in
-    (ask-bytes (union-record _ _ (at-number-at .number-at .ensures) (start .pre .1 .2) (start .pre .1 .0 .edition) q), omega (arith, m .1, at-number-at4 .number-at4 .ensures), m .0 .exist, members-rise (m .0))
+    let q = union-else r (at-number-at .kind-at .ensures) (start .pre .1 .1) (at-if1 .if1 .left) (at-if2 .if2 .left) (at-if3 .if3 .left) in
+    let m = union-members r (at-number-at .kind-at .ensures) (at-number-at2 .a-at .ensures) (at-number-at3 .b-at .ensures) q in
+    (ask-bytes (union-record _ _ (at-number-at .kind-at .ensures) (start .pre .1 .2) (start .pre .1 .0 .edition) q), omega (arith, m .1, at-number-at4 .c-at .ensures), m .0 .exist, members-rise (m .0))
 
 out-of-line-add-content : (t : ℕ) → out-of-line-lts.Need-add-content (out-of-line-calls t) (out-of-line-at t) out-of-line.Post
 out-of-line-add-content t c =
@@ -723,8 +704,8 @@ out-of-line-add-content t c =
     let at-number-at = at-if1 .before .before .before .before in
     let start = at-number-at .before .before .before .before .before .before in
     let r = start .pre .1 .0 in
-    let q = union-else r (at-number-at .number-at .ensures) (start .pre .1 .1) (at-if1 .if1 .left) (at-if2 .if2 .left) (at-if3 .if3 .left) in
-    let a = union-record _ _ (at-number-at .number-at .ensures) (start .pre .1 .2) (start .pre .1 .0 .edition) q in
+    let q = union-else r (at-number-at .kind-at .ensures) (start .pre .1 .1) (at-if1 .if1 .left) (at-if2 .if2 .left) (at-if3 .if3 .left) in
+    let a = union-record _ _ (at-number-at .kind-at .ensures) (start .pre .1 .2) (start .pre .1 .0 .edition) q in
     omega (arith, a .inside, a .short)
 
 out-of-line-content-requires : (t : ℕ) → out-of-line-lts.Need-content-requires (out-of-line-calls t) (out-of-line-at t) out-of-line.Post
@@ -740,9 +721,9 @@ out-of-line-content-requires t c κs =
     let at-number-at = at-number-at2 .before in
     let start = at-number-at .before .before .before .before .before .before in
     let r = start .pre .1 .0 in
-    let q = union-else r (at-number-at .number-at .ensures) (start .pre .1 .1) (at-if1 .if1 .left) (at-if2 .if2 .left) (at-if3 .if3 .left) in
-    let m = union-members r (at-number-at .number-at .ensures) (at-number-at2 .number-at2 .ensures) (at-number-at3 .number-at3 .ensures) q in
-    let a = union-asks (typeTable (start .args .rows .now) (start .args .members .now)) (start .args .bytes .now) _ _ _ _ _ _ (start .args .objects .now) _ _ (at-number-at .number-at .ensures) (at-number-at2 .number-at2 .ensures) (at-number-at3 .number-at3 .ensures) (at-number-at4 .number-at4 .ensures) q (start .pre .1 .0) (start .pre .1 .2) (at-union-member .union-member .ensures .0) (at-what .what .given .1) in
+    let q = union-else r (at-number-at .kind-at .ensures) (start .pre .1 .1) (at-if1 .if1 .left) (at-if2 .if2 .left) (at-if3 .if3 .left) in
+    let m = union-members r (at-number-at .kind-at .ensures) (at-number-at2 .a-at .ensures) (at-number-at3 .b-at .ensures) q in
+    let a = union-asks (typeTable (start .args .rows .now) (start .args .members .now)) (start .args .bytes .now) _ _ _ _ _ _ (start .args .objects .now) _ _ (at-number-at .kind-at .ensures) (at-number-at2 .a-at .ensures) (at-number-at3 .b-at .ensures) (at-number-at4 .c-at .ensures) q (start .pre .1 .0) (start .pre .1 .2) (at-union-member .union-member .ensures .0) (at-what .what .given .1) in
     (omega (arith, start .pre .0), (r, member-fits (m .0) _ _ _ (at-union-member .union-member .ensures .1) (at-what .what .given .1), a))
 
 out-of-line-returns-10 : (t : ℕ) → out-of-line-lts.Need-returns-10 (out-of-line-calls t) (out-of-line-at t) out-of-line.Post
@@ -764,13 +745,13 @@ out-of-line-returns-12 t c =
     let at-number-at2 = at-number-at3 .before in
     let at-number-at = at-number-at2 .before in
     let start = at-number-at .before .before .before .before .before .before in
-    let q = union-else (start .pre .1 .0) (at-number-at .number-at .ensures) (start .pre .1 .1) (at-if1 .if1 .left) (at-if2 .if2 .left) (at-if3 .if3 .left) in
-    rw (c .passed-on4 .ensures) (union-done _ _ _ _ _ _ _ _ _ _ _ (at-number-at .number-at .ensures) (at-number-at2 .number-at2 .ensures) (at-number-at3 .number-at3 .ensures) (at-number-at4 .number-at4 .ensures) q (start .pre .1 .0) (start .pre .1 .2) (at-union-member .union-member .ensures .0) (at-what .what .given .1) (at-content .content .ensures))
+    let q = union-else (start .pre .1 .0) (at-number-at .kind-at .ensures) (start .pre .1 .1) (at-if1 .if1 .left) (at-if2 .if2 .left) (at-if3 .if3 .left) in
+    rw (c .passed-on4 .ensures) (union-done _ _ _ _ _ _ _ _ _ _ _ (at-number-at .kind-at .ensures) (at-number-at2 .a-at .ensures) (at-number-at3 .b-at .ensures) (at-number-at4 .c-at .ensures) q (start .pre .1 .0) (start .pre .1 .2) (at-union-member .union-member .ensures .0) (at-what .what .given .1) (at-content .content .ensures))
 
 -- ---- value: a value of any kind
 
 abbrev value-calls : ℕ → value-lts.Claims
-value-calls t = (number-at-reads.Asked, number-at-reads.Learnt, boolean-reads.Asked, boolean-reads.Learnt, number-reads.Asked, number-reads.Learnt, handle-reads.Asked, handle-reads.Learnt, has-parts-reads.Asked, has-parts-reads.Learnt, composite-below t, composite.Post, fill-at-reads.Asked, fill-at-reads.Learnt, numbers-reads.Asked, numbers-reads.Learnt, string-reads.Asked, string-reads.Learnt, out-of-line-below t, out-of-line.Post)
+value-calls t = (kind-at-reads.Asked, kind-at-reads.Learnt, a-at-reads.Asked, a-at-reads.Learnt, boolean-reads.Asked, boolean-reads.Learnt, number-reads.Asked, number-reads.Learnt, handle-reads.Asked, handle-reads.Learnt, has-parts-reads.Asked, has-parts-reads.Learnt, composite-below t, composite.Post, fill-at-reads.Asked, fill-at-reads.Learnt, b-at-reads.Asked, b-at-reads.Learnt, numbers-reads.Asked, numbers-reads.Learnt, c-at-reads.Asked, c-at-reads.Learnt, string-reads.Asked, string-reads.Learnt, out-of-line-below t, out-of-line.Post)
 
 value-returns : (t : ℕ) → value-lts.Need-returns (value-calls t) (value-at t) value.Post
 value-returns t c = search (needs, value-bool)
@@ -781,7 +762,7 @@ value-number-requires t c κs =
     let at-number-at2 = at-if2 .before .before in
     let at-number-at = at-number-at2 .before in
     let start = at-number-at .before .before .before .before .before .before in
-    (number-ask (start .pre .1 .0) (at-number-at .number-at .ensures) (at-if2 .if2 .taken) (at-number-at2 .number-at2 .ensures) .0, omega (arith, start .pre .1 .1 .small))
+    (number-ask (start .pre .1 .0) (at-number-at .kind-at .ensures) (at-if2 .if2 .taken) (at-number-at2 .a-at .ensures) .0, omega (arith, start .pre .1 .1 .small))
 
 value-returns-2 : (t : ℕ) → value-lts.Need-returns-2 (value-calls t) (value-at t) value.Post
 value-returns-2 t c =
@@ -790,7 +771,7 @@ value-returns-2 t c =
     let at-number-at2 = at-if2 .before .before in
     let at-number-at = at-number-at2 .before in
     let start = at-number-at .before .before .before .before .before .before in
-    value-number _ _ _ _ _ _ _ _ _ _ _ (at-number-at .number-at .ensures) (at-if2 .if2 .taken) (at-number-at2 .number-at2 .ensures) (number-ask (start .pre .1 .0) (at-number-at .number-at .ensures) (at-if2 .if2 .taken) (at-number-at2 .number-at2 .ensures) .1) (start .pre .1 .1 .free) (start .pre .1 .1 .held) (at-number .number .ensures)
+    value-number _ _ _ _ _ _ _ _ _ _ _ (at-number-at .kind-at .ensures) (at-if2 .if2 .taken) (at-number-at2 .a-at .ensures) (number-ask (start .pre .1 .0) (at-number-at .kind-at .ensures) (at-if2 .if2 .taken) (at-number-at2 .a-at .ensures) .1) (start .pre .1 .1 .free) (start .pre .1 .1 .held) (at-number .number .ensures)
 
 value-returns-3 : (t : ℕ) → value-lts.Need-returns-3 (value-calls t) (value-at t) value.Post
 value-returns-3 t c = search (needs, value-handle)
@@ -816,7 +797,7 @@ value-numbers-requires t c κs =
     let at-number-at2 = at-if4 .before .before .before .before in
     let at-number-at = at-number-at2 .before in
     let start = at-number-at .before .before .before .before .before .before in
-    array-ask (start .pre .1 .0) (at-number-at .number-at .ensures) (at-if4 .if4 .taken) (at-if6 .if6 .left) (at-has-parts .has-parts .ensures) (at-if5 .if5 .left) (at-number-at2 .number-at2 .ensures) (at-number-at4 .number-at4 .ensures) (at-number-at3 .number-at3 .ensures) (start .pre .1 .1)
+    array-ask (start .pre .1 .0) (at-number-at .kind-at .ensures) (at-if4 .if4 .taken) (at-if6 .if6 .left) (at-has-parts .has-parts .ensures) (at-if5 .if5 .left) (at-number-at2 .a-at .ensures) (at-number-at4 .b-at .ensures) (at-number-at3 .a-at2 .ensures) (start .pre .1 .1)
 
 value-returns-6 : (t : ℕ) → value-lts.Need-returns-6 (value-calls t) (value-at t) value.Post
 value-returns-6 t c = search (needs, array-done)
@@ -826,7 +807,7 @@ value-string-requires t c κs =
     let at-if7 = c .before .before .before .before in
     let at-number-at = at-if7 .before .before .before .before .before .before in
     let start = at-number-at .before .before .before .before .before .before in
-    (ask-bytes (string-ask _ _ (at-number-at .number-at .ensures) (at-if7 .if7 .taken) (start .pre .1 .1)), omega (arith, row-few (start .pre .1 .0)))
+    (ask-bytes (string-ask _ _ (at-number-at .kind-at .ensures) (at-if7 .if7 .taken) (start .pre .1 .1)), omega (arith, row-few (start .pre .1 .0)))
 
 value-returns-7 : (t : ℕ) → value-lts.Need-returns-7 (value-calls t) (value-at t) value.Post
 value-returns-7 t c = search (needs, value-string)
@@ -840,28 +821,16 @@ value-out-of-line-requires t c κs =
     let at-if1 = at-if2 .before in
     let at-number-at = at-if1 .before .before in
     let start = at-number-at .before .before .before .before .before .before in
-    (omega (arith, start .pre .0), (start .pre .1 .0, outside-left (typeTable (start .args .rows .now) (start .args .members .now)) (start .args .row) (at-number-at .number-at .ensures) (at-if1 .if1 .left) (at-if2 .if2 .left) (at-if3 .if3 .left) (at-if4 .if4 .left) (at-if7 .if7 .left), start .pre .1 .1))
+    (omega (arith, start .pre .0), (start .pre .1 .0, outside-left (typeTable (start .args .rows .now) (start .args .members .now)) (start .args .row) (at-number-at .kind-at .ensures) (at-if1 .if1 .left) (at-if2 .if2 .left) (at-if3 .if3 .left) (at-if4 .if4 .left) (at-if7 .if7 .left), start .pre .1 .1))
 
 value-same-length-6 : (t : ℕ) → value-lts.Need-same-length-6 (value-calls t) (value-at t) value.Post
 value-same-length-6 t c = search needs
 
-value-mul-number-at-5 : (t : ℕ) → value-lts.Need-mul-number-at-5 (value-calls t) (value-at t) value.Post
-value-mul-number-at-5 t c = search needs
+value-b-at-requires-2 : (t : ℕ) → value-lts.Need-b-at-requires-2 (value-calls t) (value-at t) value.Post
+value-b-at-requires-2 t c κs = search needs
 
-value-add-number-at-4 : (t : ℕ) → value-lts.Need-add-number-at-4 (value-calls t) (value-at t) value.Post
-value-add-number-at-4 t c = search needs
-
-value-number-at-requires-5 : (t : ℕ) → value-lts.Need-number-at-requires-5 (value-calls t) (value-at t) value.Post
-value-number-at-requires-5 t c κs = search needs
-
-value-mul-number-at-6 : (t : ℕ) → value-lts.Need-mul-number-at-6 (value-calls t) (value-at t) value.Post
-value-mul-number-at-6 t c = search needs
-
-value-add-number-at-5 : (t : ℕ) → value-lts.Need-add-number-at-5 (value-calls t) (value-at t) value.Post
-value-add-number-at-5 t c = search needs
-
-value-number-at-requires-6 : (t : ℕ) → value-lts.Need-number-at-requires-6 (value-calls t) (value-at t) value.Post
-value-number-at-requires-6 t c κs = search needs
+value-c-at-requires : (t : ℕ) → value-lts.Need-c-at-requires (value-calls t) (value-at t) value.Post
+value-c-at-requires t c κs = search needs
 
 value-same-length-7 : (t : ℕ) → value-lts.Need-same-length-7 (value-calls t) (value-at t) value.Post
 value-same-length-7 t c = search needs
@@ -894,86 +863,80 @@ pub +composite+content+elements+envelopes+out-of-line+value-spec : {M : Type 1} 
     composite.Post
     composite-Inv-loop
     composite-μ-loop
-    (composite-mul-number-at t) (composite-add-number-at t) (λ c κs. search needs) (λ c. search needs)
-    (composite-mul-number-at-2 t) (composite-add-number-at-2 t) (λ c κs. search needs) (λ c. search needs)
-    (composite-mul-number-at-3 t) (λ c κs. search needs) (λ c κs. search needs) (λ c κs. search needs) (λ c. search needs)
-    (composite-planned-requires t) (λ c. search needs) (composite-returns t) (composite-mul-number-at-4 t)
-    (λ c κs. search needs) (composite-mul-number-at-5 t) (composite-add-number-at-3 t) (λ c κs. search needs)
-    (composite-has-parts-requires t) (composite-value-requires t) (composite-enum-known-d t)
-    (composite-number-at-requires-7 t) (λ c. search needs) (composite-add-stop t) (composite-number-at-requires-8 t)
-    (λ c. search needs) (composite-add-fill-at t) (composite-sub-fill-at t) (composite-fill-at-requires t)
-    (composite-same-length-2 t) (composite-same-length-3 t) (composite-returns-2 t) (composite-enum-known-f t)
-    (composite-same-length-4 t) (composite-same-length-5 t) (composite-returns-3 t) (composite-loop-holds t)
-    (λ c κs. search needs) (λ c. search needs) (composite-sub-fill-at-2 t) (composite-fill-at-requires-2 t)
-    (λ c. search needs) (composite-add-level t) (composite-loop-less t) (composite-loop-again t) (λ c. search needs)
-    (composite-same-length-6 t) (composite-same-length-7 t) (composite-returns-4 t) (λ c. search needs) (λ c. search needs)
-    (composite-array-set-from-kept t) (λ c. search needs) (composite-loop-less-2 t) (composite-loop-again-2 t)
-    (λ c. search needs) (composite-value-requires-2 t) (composite-enum-known-e-2 t) (λ c κs. search needs) (λ c. search needs)
-    (composite-add-place t) (composite-loop-less-3 t) (composite-loop-again-3 t) (composite-enum-known-f-3 t)
-    (composite-same-length-8 t) (composite-same-length-9 t) (composite-returns-5 t) (λ c. search needs)
-    (composite-sub-around t) (λ c. search needs) (λ c. search needs) (composite-loop-less-4 t) (composite-loop-again-4 t)
-    (λ c. search needs) (composite-same-length-10 t) (composite-same-length-11 t) (composite-returns-6 t))
+    (λ c κs. search needs) (λ c. search needs) (λ c κs. search needs) (λ c. search needs) (λ c κs. search needs)
+    (λ c κs. search needs) (λ c κs. search needs) (λ c. search needs) (composite-planned-requires t) (λ c. search needs)
+    (composite-returns t) (λ c κs. search needs) (λ c κs. search needs) (composite-has-parts-requires t)
+    (composite-value-requires t) (composite-enum-known-d t) (composite-number-at-requires-2 t) (λ c. search needs)
+    (composite-add-stop t) (composite-number-at-requires-3 t) (λ c. search needs) (composite-add-fill-at t)
+    (composite-sub-fill-at t) (composite-fill-at-requires t) (composite-same-length-2 t) (composite-same-length-3 t)
+    (composite-returns-2 t) (composite-enum-known-f t) (composite-same-length-4 t) (composite-same-length-5 t)
+    (composite-returns-3 t) (composite-loop-holds t) (λ c κs. search needs) (λ c. search needs) (composite-sub-fill-at-2 t)
+    (composite-fill-at-requires-2 t) (λ c. search needs) (composite-add-level t) (composite-loop-less t)
+    (composite-loop-again t) (λ c. search needs) (composite-same-length-6 t) (composite-same-length-7 t)
+    (composite-returns-4 t) (λ c. search needs) (λ c. search needs) (composite-array-set-from-kept t) (λ c. search needs)
+    (composite-loop-less-2 t) (composite-loop-again-2 t) (λ c. search needs) (composite-value-requires-2 t)
+    (composite-enum-known-e-2 t) (λ c κs. search needs) (λ c. search needs) (composite-add-place t)
+    (composite-loop-less-3 t) (composite-loop-again-3 t) (composite-enum-known-f-3 t) (composite-same-length-8 t)
+    (composite-same-length-9 t) (composite-returns-5 t) (λ c. search needs) (composite-sub-around t) (λ c. search needs)
+    (λ c. search needs) (composite-loop-less-4 t) (composite-loop-again-4 t) (λ c. search needs)
+    (composite-same-length-10 t) (composite-same-length-11 t) (composite-returns-6 t))
     (λ t. content-lts.spec (content-calls t)
     (content-at t)
     content.Post
     (λ c. search needs) (content-unknown-content-requires t) (λ c. search needs) (λ c κs. search needs) (λ c. search needs)
     (content-known-opened-requires t) (λ c. search needs) (λ c. search needs) (λ c. search needs) (content-sub-value t)
     (content-value-requires t) (λ c. search needs) (content-sealed-requires t) (λ c. search needs) (λ c. search needs)
-    (λ c. search needs) (content-returns t) (λ c. search needs) (content-returns-2 t) (λ c. search needs) (content-returns-3 t)
-    (λ c. search needs) (λ c. search needs) (content-returns-4 t) (λ c. search needs) (λ c. search needs) (content-returns-5 t))
+    (λ c. search needs) (content-returns t) (λ c. search needs) (content-returns-2 t) (λ c. search needs)
+    (content-returns-3 t) (λ c. search needs) (λ c. search needs) (content-returns-4 t) (λ c. search needs)
+    (λ c. search needs) (content-returns-5 t))
     (λ t. elements-lts.spec (elements-calls t)
     (elements-at t)
     elements.Post
     elements-Inv-loop
     elements-μ-loop
-    (λ c. search needs) (λ c κs. search needs) (λ c. search needs) (λ c. search needs) (λ c κs. search needs)
-    (elements-numbers-requires t) (λ c. search needs) (elements-returns t) (λ c κs. search needs) (λ c. search needs)
-    (λ c κs. search needs) (elements-planned-requires t) (λ c. search needs) (elements-returns-2 t) (λ c. search needs)
-    (elements-value-requires t) (λ c. search needs) (λ c. search needs) (λ c. search needs) (λ c. search needs)
-    (elements-returns-3 t) (λ c. search needs) (λ c. search needs) (λ c. search needs) (elements-loop-again t)
-    (λ c. search needs) (λ c. search needs) (elements-returns-4 t))
+    (λ c κs. search needs) (λ c κs. search needs) (elements-numbers-requires t) (λ c. search needs) (elements-returns t)
+    (λ c κs. search needs) (λ c. search needs) (λ c κs. search needs) (elements-planned-requires t) (λ c. search needs)
+    (elements-returns-2 t) (λ c. search needs) (elements-value-requires t) (λ c. search needs) (λ c. search needs)
+    (λ c. search needs) (λ c. search needs) (elements-returns-3 t) (λ c. search needs) (λ c. search needs)
+    (λ c. search needs) (elements-loop-again t) (λ c. search needs) (λ c. search needs) (elements-returns-4 t))
     (λ t. envelopes-lts.spec (envelopes-calls t)
     (envelopes-at t)
     envelopes.Post
     envelopes-Inv-loop
     envelopes-μ-loop
-    (λ c. search needs) (λ c. search needs) (λ c κs. search needs) (λ c. search needs) (λ c. search needs) (λ c. search needs)
-    (λ c κs. search needs) (λ c. search needs) (envelopes-loop-holds t) (λ c. search needs) (λ c. search needs)
-    (λ c. search needs) (λ c κs. search needs) (λ c κs. search needs) (λ c. search needs) (λ c. search needs)
-    (envelopes-returns t) (λ c κs. search needs) (λ c. search needs) (envelopes-loop-again t) (λ c κs. search needs)
-    (λ c κs. search needs) (envelopes-content-requires t) (λ c. search needs) (λ c. search needs) (envelopes-loop-again-2 t)
-    (λ c. search needs) (λ c. search needs) (λ c. search needs) (envelopes-returns-2 t) (λ c. search needs) (λ c. search needs)
-    (envelopes-returns-3 t))
+    (λ c κs. search needs) (λ c. search needs) (λ c κs. search needs) (λ c. search needs) (envelopes-loop-holds t)
+    (λ c. search needs) (λ c. search needs) (λ c. search needs) (λ c κs. search needs) (λ c κs. search needs)
+    (λ c. search needs) (λ c. search needs) (envelopes-returns t) (λ c κs. search needs) (λ c. search needs)
+    (envelopes-loop-again t) (λ c κs. search needs) (λ c κs. search needs) (envelopes-content-requires t)
+    (λ c. search needs) (λ c. search needs) (envelopes-loop-again-2 t) (λ c. search needs) (λ c. search needs)
+    (λ c. search needs) (envelopes-returns-2 t) (λ c. search needs) (λ c. search needs) (envelopes-returns-3 t))
     (λ t. out-of-line-lts.spec (out-of-line-calls t)
     (out-of-line-at t)
     out-of-line.Post
-    (λ c. search needs) (λ c κs. search needs) (λ c. search needs) (λ c. search needs) (λ c κs. search needs)
-    (λ c. search needs) (λ c. search needs) (λ c. search needs) (λ c κs. search needs) (λ c. search needs) (λ c. search needs)
-    (λ c κs. search needs) (λ c κs. search needs) (λ c. search needs) (out-of-line-vector-opened-requires t) (λ c. search needs)
+    (λ c κs. search needs) (λ c κs. search needs) (λ c. search needs) (λ c κs. search needs) (λ c κs. search needs)
+    (λ c κs. search needs) (λ c. search needs) (out-of-line-vector-opened-requires t) (λ c. search needs)
     (λ c. search needs) (λ c. search needs) (out-of-line-sub-elements t) (out-of-line-elements-requires t)
     (λ c κs. search needs) (λ c. search needs) (λ c. search needs) (out-of-line-returns t) (λ c. search needs)
     (λ c. search needs) (out-of-line-returns-2 t) (λ c. search needs) (λ c. search needs) (out-of-line-returns-3 t)
     (λ c κs. search needs) (λ c. search needs) (out-of-line-box-opened-requires t) (λ c. search needs) (λ c. search needs)
     (λ c. search needs) (out-of-line-sub-value t) (out-of-line-value-requires t) (λ c κs. search needs) (λ c. search needs)
     (λ c. search needs) (out-of-line-returns-4 t) (λ c. search needs) (λ c. search needs) (out-of-line-returns-5 t)
-    (λ c. search needs) (λ c. search needs) (out-of-line-returns-6 t) (out-of-line-table-opened-requires t) (λ c. search needs)
-    (λ c. search needs) (λ c. search needs) (out-of-line-sub-envelopes t) (out-of-line-envelopes-requires t)
-    (λ c κs. search needs) (λ c. search needs) (λ c. search needs) (out-of-line-returns-7 t) (λ c. search needs)
-    (λ c. search needs) (out-of-line-returns-8 t) (λ c. search needs) (λ c. search needs) (out-of-line-returns-9 t)
-    (λ c. search needs) (out-of-line-union-member-requires t) (λ c. search needs) (λ c. search needs) (λ c. search needs)
-    (out-of-line-add-content t) (out-of-line-content-requires t) (λ c κs. search needs) (λ c. search needs)
-    (out-of-line-returns-10 t) (λ c. search needs) (out-of-line-returns-11 t) (λ c. search needs) (λ c. search needs)
-    (out-of-line-returns-12 t))
+    (λ c. search needs) (λ c. search needs) (out-of-line-returns-6 t) (out-of-line-table-opened-requires t)
+    (λ c. search needs) (λ c. search needs) (λ c. search needs) (out-of-line-sub-envelopes t)
+    (out-of-line-envelopes-requires t) (λ c κs. search needs) (λ c. search needs) (λ c. search needs)
+    (out-of-line-returns-7 t) (λ c. search needs) (λ c. search needs) (out-of-line-returns-8 t) (λ c. search needs)
+    (λ c. search needs) (out-of-line-returns-9 t) (λ c. search needs) (out-of-line-union-member-requires t)
+    (λ c. search needs) (λ c. search needs) (λ c. search needs) (out-of-line-add-content t) (out-of-line-content-requires t)
+    (λ c κs. search needs) (λ c. search needs) (out-of-line-returns-10 t) (λ c. search needs) (out-of-line-returns-11 t)
+    (λ c. search needs) (λ c. search needs) (out-of-line-returns-12 t))
     λ t. value-lts.spec (value-calls t)
     (value-at t)
     value.Post
-    (λ c. search needs) (λ c κs. search needs) (λ c. search needs) (λ c. search needs) (λ c κs. search needs)
-    (λ c κs. search needs) (λ c. search needs) (value-returns t) (value-number-requires t) (λ c. search needs)
-    (value-returns-2 t) (λ c κs. search needs) (λ c. search needs) (value-returns-3 t) (λ c κs. search needs)
-    (value-composite-requires t) (λ c. search needs) (λ c. search needs) (λ c. search needs) (λ c κs. search needs)
-    (value-returns-5 t) (λ c. search needs) (λ c. search needs) (λ c. search needs) (λ c κs. search needs) (λ c. search needs)
-    (λ c. search needs) (λ c κs. search needs) (λ c. search needs) (value-numbers-requires t) (value-same-length-6 t)
-    (value-returns-6 t) (value-mul-number-at-5 t) (value-add-number-at-4 t) (value-number-at-requires-5 t)
-    (value-mul-number-at-6 t) (value-add-number-at-5 t) (value-number-at-requires-6 t) (value-string-requires t)
-    (value-same-length-7 t) (value-same-length-8 t) (value-returns-7 t) (value-out-of-line-requires t) (value-same-length-9 t)
+    (λ c κs. search needs) (λ c κs. search needs) (λ c κs. search needs) (λ c. search needs) (value-returns t)
+    (value-number-requires t) (λ c. search needs) (value-returns-2 t) (λ c κs. search needs) (λ c. search needs)
+    (value-returns-3 t) (λ c κs. search needs) (value-composite-requires t) (λ c. search needs) (λ c. search needs)
+    (λ c. search needs) (λ c κs. search needs) (value-returns-5 t) (λ c. search needs) (λ c κs. search needs)
+    (λ c κs. search needs) (λ c. search needs) (value-numbers-requires t) (value-same-length-6 t) (value-returns-6 t)
+    (value-b-at-requires-2 t) (value-c-at-requires t) (value-string-requires t) (value-same-length-7 t)
+    (value-same-length-8 t) (value-returns-7 t) (value-out-of-line-requires t) (value-same-length-9 t)
     (value-same-length-10 t) (value-returns-8 t)

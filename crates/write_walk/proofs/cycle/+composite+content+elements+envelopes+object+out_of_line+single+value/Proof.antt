@@ -60,6 +60,11 @@ use Rattle.nesting.proofs.next_step.Reads as next-step-reads
 use Rattle.ordinals.proofs.ordinal_of.Reads as ordinal-of-reads
 use Rattle.plans.proofs.plan_of.Reads as plan-of-reads
 use Rattle.words.proofs.number_at.Reads as number-at-reads
+use Rattle.table.proofs.a_at.Reads as a-at-reads
+use Rattle.table.proofs.b_at.Reads as b-at-reads
+use Rattle.table.proofs.c_at.Reads as c-at-reads
+use Rattle.table.proofs.kind_at.Reads as kind-at-reads
+use Rattle.table.proofs.row_of.Reads as row-of-reads
 use Rattle.words.proofs.store64.Reads as store64-reads
 use Rattle.words.proofs.value_at.Reads as value-at-reads
 use Rattle.write_leaves.proofs.cursor.put_zeros.Reads as put-zeros-reads
@@ -163,7 +168,7 @@ value-below t = and 6 value-kinds.ps (falls 6 value-kinds.ps _<_ μ-value t) val
 -- ---- composite: structs and arrays
 
 abbrev composite-calls : ℕ → composite-lts.Claims
-composite-calls t = (number-at-reads.Asked, number-at-reads.Learnt, plan-of-reads.Asked, plan-of-reads.Learnt, planned-reads.Asked, planned-reads.Learnt, next-step-reads.Asked, next-step-reads.Learnt, put-zeros-reads.Asked, put-zeros-reads.Learnt, value-below t, value.Post)
+composite-calls t = (a-at-reads.Asked, a-at-reads.Learnt, row-of-reads.Asked, row-of-reads.Learnt, kind-at-reads.Asked, kind-at-reads.Learnt, plan-of-reads.Asked, plan-of-reads.Learnt, number-at-reads.Asked, number-at-reads.Learnt, planned-reads.Asked, planned-reads.Learnt, next-step-reads.Asked, next-step-reads.Learnt, put-zeros-reads.Asked, put-zeros-reads.Learnt, value-below t, value.Post)
 
 abbrev composite-Inv-loop : composite-lts.InvT-loop
 composite-Inv-loop rows members sizes alignments values out₀ base depth row at first part kept₀ around₀ level₀ due₀ place₀ d₀ out kept around level due place d =
@@ -178,7 +183,7 @@ composite-planned-requires t c κs =
     let at-if2 = c .before .before .before in
     let at-plan-of = at-if2 .before .before in
     let start = at-plan-of .before .before .before .before .before .before .before .before .before in
-    alone-ask (start .pre .1 .0) (at-plan-of .plan-of .ensures) (at-if2 .if2 .taken) (c .before .number-at4 .ensures) (start .pre .1 .2)
+    alone-ask (start .pre .1 .0) (at-plan-of .plan-of .ensures) (at-if2 .if2 .taken) (c .before .number-at .ensures) (start .pre .1 .2)
 
 composite-returns : (t : ℕ) → composite-lts.Need-returns (composite-calls t) (composite-at t) composite.Post composite-Inv-loop composite-μ-loop
 composite-returns t c =
@@ -187,7 +192,7 @@ composite-returns t c =
     let at-if2 = at-number-at .before .before in
     let at-plan-of = at-if2 .before .before in
     let start = at-plan-of .before .before .before .before .before .before .before .before .before in
-    alone-done (start .pre .1 .0) (at-plan-of .plan-of .ensures) (at-if2 .if2 .taken) (at-number-at .number-at4 .ensures) _ _ _ _ _ _ _ (start .pre .1 .2) (at-planned .planned .ensures)
+    alone-done (start .pre .1 .0) (at-plan-of .plan-of .ensures) (at-if2 .if2 .taken) (at-number-at .number-at .ensures) _ _ _ _ _ _ _ (start .pre .1 .2) (at-planned .planned .ensures)
 
 composite-loop-holds : (t : ℕ) → composite-lts.Need-loop-holds (composite-calls t) (composite-at t) composite.Post composite-Inv-loop composite-μ-loop
 composite-loop-holds t c =
@@ -270,7 +275,7 @@ composite-loop-less-3 t c =
     let at-part2 = at-value .before .before .before in
     let at-next-step = at-part2 .before .before in
     let at-loop = at-next-step .before in
-    call-done (at-loop .loop .inv .0) (at-loop .loop .inv .1) (at-next-step .next-step .ensures) (at-part2 .part2 .given .1) (at-value .value .ensures) (at-e .e .given .1) (c .number-at5 .ensures) .1
+    call-done (at-loop .loop .inv .0) (at-loop .loop .inv .1) (at-next-step .next-step .ensures) (at-part2 .part2 .given .1) (at-value .value .ensures) (at-e .e .given .1) (c .number-at2 .ensures) .1
 
 composite-loop-again-3 : (t : ℕ) → composite-lts.Need-loop-again-3 (composite-calls t) (composite-at t) composite.Post composite-Inv-loop composite-μ-loop
 composite-loop-again-3 t c =
@@ -279,7 +284,7 @@ composite-loop-again-3 t c =
     let at-part2 = at-value .before .before .before in
     let at-next-step = at-part2 .before .before in
     let at-loop = at-next-step .before in
-    (at-loop .loop .inv .0, call-done (at-loop .loop .inv .0) (at-loop .loop .inv .1) (at-next-step .next-step .ensures) (at-part2 .part2 .given .1) (at-value .value .ensures) (at-e .e .given .1) (c .number-at5 .ensures) .0)
+    (at-loop .loop .inv .0, call-done (at-loop .loop .inv .0) (at-loop .loop .inv .1) (at-next-step .next-step .ensures) (at-part2 .part2 .given .1) (at-value .value .ensures) (at-e .e .given .1) (c .number-at2 .ensures) .0)
 
 composite-returns-2 : (t : ℕ) → composite-lts.Need-returns-2 (composite-calls t) (composite-at t) composite.Post composite-Inv-loop composite-μ-loop
 composite-returns-2 t c =
@@ -510,7 +515,7 @@ content-returns-8 t c =
 -- ---- elements: a vector's elements, or what an object holds
 
 abbrev elements-calls : ℕ → elements-lts.Claims
-elements-calls t = (number-at-reads.Asked, number-at-reads.Learnt, numbers-reads.Asked, numbers-reads.Learnt, plan-of-reads.Asked, plan-of-reads.Learnt, planned-reads.Asked, planned-reads.Learnt, value-below t, value.Post)
+elements-calls t = (kind-at-reads.Asked, kind-at-reads.Learnt, a-at-reads.Asked, a-at-reads.Learnt, numbers-reads.Asked, numbers-reads.Learnt, number-at-reads.Asked, number-at-reads.Learnt, plan-of-reads.Asked, plan-of-reads.Learnt, planned-reads.Asked, planned-reads.Learnt, value-below t, value.Post)
 
 abbrev elements-Inv-loop : elements-lts.InvT-loop
 elements-Inv-loop rows members sizes alignments values out₀ base depth row count at kind size d₀ place₀ left₀ out d place left =
@@ -528,16 +533,16 @@ elements-numbers-requires t c κs =
     let at-if1 = at-number-at2 .before in
     let at-number-at = at-if1 .before in
     let start = at-number-at .before .before .before .before .before in
-    numbers-ask (start .pre .1 .0) (at-number-at .number-at .ensures) (at-if1 .if1 .taken) (at-number-at2 .number-at2 .ensures) _ (start .pre .1 .1)
+    numbers-ask (start .pre .1 .0) (at-number-at .kind-at .ensures) (at-if1 .if1 .taken) (at-number-at2 .a-at .ensures) _ (start .pre .1 .1)
 
 elements-returns : (t : ℕ) → elements-lts.Need-returns (elements-calls t) (elements-at t) elements.Post elements-Inv-loop elements-μ-loop
 elements-returns t c = search (needs, numbers-done)
 
 elements-planned-requires : (t : ℕ) → elements-lts.Need-planned-requires (elements-calls t) (elements-at t) elements.Post elements-Inv-loop elements-μ-loop
-elements-planned-requires t c κs = planned-ask (c .before .before .before .before .before .before .before .before .before .before .before .before .pre .1 .0) (c .before .before .before .plan-of .ensures) (c .before .if2 .taken) (c .before .before .before .before .number-at3 .ensures) _ (c .before .before .before .before .before .before .before .before .before .before .before .before .pre .1 .1)
+elements-planned-requires t c κs = planned-ask (c .before .before .before .before .before .before .before .before .before .before .before .before .pre .1 .0) (c .before .before .before .plan-of .ensures) (c .before .if2 .taken) (c .before .before .before .before .number-at .ensures) _ (c .before .before .before .before .before .before .before .before .before .before .before .before .pre .1 .1)
 
 elements-returns-2 : (t : ℕ) → elements-lts.Need-returns-2 (elements-calls t) (elements-at t) elements.Post elements-Inv-loop elements-μ-loop
-elements-returns-2 t c = planned-done (c .before .before .before .before .before .before .before .before .before .before .before .before .before .before .before .pre .1 .0) (c .before .before .before .before .before .before .plan-of .ensures) (c .before .before .before .before .if2 .taken) (c .before .before .before .before .before .before .before .number-at3 .ensures) _ _ _ _ _ _ _ _ (c .before .before .before .before .before .before .before .before .before .before .before .before .before .before .before .pre .1 .1) (c .before .before .planned .ensures)
+elements-returns-2 t c = planned-done (c .before .before .before .before .before .before .before .before .before .before .before .before .before .before .before .pre .1 .0) (c .before .before .before .before .before .before .plan-of .ensures) (c .before .before .before .before .if2 .taken) (c .before .before .before .before .before .before .before .number-at .ensures) _ _ _ _ _ _ _ _ (c .before .before .before .before .before .before .before .before .before .before .before .before .before .before .before .pre .1 .1) (c .before .before .planned .ensures)
 
 elements-loop-holds : (t : ℕ) → elements-lts.Need-loop-holds (elements-calls t) (elements-at t) elements.Post elements-Inv-loop elements-μ-loop
 elements-loop-holds t c = (search (needs, run-start), search needs)
@@ -551,7 +556,7 @@ elements-returns-3 t c = search (needs, run-stopped)
 elements-loop-again : (t : ℕ) → elements-lts.Need-loop-again (elements-calls t) (elements-at t) elements.Post elements-Inv-loop elements-μ-loop
 elements-loop-again t c =
     let r = c .before .before .before .before .before .before .before .before .before .before .before .before .before .before .before .before .before .before .before .before .pre .1 .0 in
-    (run-next (c .before .before .before .before .before .before .before .before .loop .inv .0) (c .before .before .before .before .before .before .before .loop-test .taken) (c .before .before .before .before .before .value .ensures) (row-size r _ (r .in-use) (c .before .before .before .before .before .before .before .before .before .before .before .before .number-at3 .ensures)) (c .before .e .given .1), search needs)
+    (run-next (c .before .before .before .before .before .before .before .before .loop .inv .0) (c .before .before .before .before .before .before .before .loop-test .taken) (c .before .before .before .before .before .value .ensures) (row-size r _ (r .in-use) (c .before .before .before .before .before .before .before .before .before .before .before .before .number-at .ensures)) (c .before .e .given .1), search needs)
 
 elements-returns-4 : (t : ℕ) → elements-lts.Need-returns-4 (elements-calls t) (elements-at t) elements.Post elements-Inv-loop elements-μ-loop
 elements-returns-4 t c = search (needs, run-end)
@@ -559,7 +564,7 @@ elements-returns-4 t c = search (needs, run-end)
 -- ---- envelopes: a table's envelopes
 
 abbrev envelopes-calls : ℕ → envelopes-lts.Claims
-envelopes-calls t = (number-at-reads.Asked, number-at-reads.Learnt, refused-reads.Asked, refused-reads.Learnt, value-at-reads.Asked, value-at-reads.Learnt, took-reads.Asked, took-reads.Learnt, store64-reads.Asked, store64-reads.Learnt, ordinal-of-reads.Asked, ordinal-of-reads.Learnt, content-below t, content.Post)
+envelopes-calls t = (a-at-reads.Asked, a-at-reads.Learnt, b-at-reads.Asked, b-at-reads.Learnt, refused-reads.Asked, refused-reads.Learnt, value-at-reads.Asked, value-at-reads.Learnt, took-reads.Asked, took-reads.Learnt, store64-reads.Asked, store64-reads.Learnt, ordinal-of-reads.Asked, ordinal-of-reads.Learnt, content-below t, content.Post)
 
 abbrev envelopes-Inv-loop : envelopes-lts.InvT-loop
 envelopes-Inv-loop rows members sizes alignments values out₀ base depth row count first known d₀ i₀ out d i =
@@ -614,7 +619,7 @@ envelopes-content-requires t c κs =
     let at-number-at2 = at-loop .before in
     let at-number-at = at-number-at2 .before in
     let start = at-number-at .before .before .before .before .before in
-    let m = table-members (start .pre .1 .0) refl (at-number-at .number-at .ensures) (at-number-at2 .number-at2 .ensures) (start .pre .1 .1) in let a = content-asks _ _ _ _ _ _ _ _ (at-loop .loop .inv .0) (at-loop-test .loop-test .taken) (omega (arith, at-if1 .if1 .left)) (at-value-at .value-at .ensures) (at-if2 .if2 .left) (at-took .took .ensures) in (omega (arith, start .pre .0), (content-ready _ (start .pre .1 .0) (ordinal-fits m _ (at-ordinal-of .ordinal-of .result) (ordinal-content m _ (at-ordinal-of .ordinal-of .result) (at-ordinal-of .ordinal-of .ensures))), a .0, a .1))
+    let m = table-members (start .pre .1 .0) refl (at-number-at .a-at .ensures) (at-number-at2 .b-at .ensures) (start .pre .1 .1) in let a = content-asks _ _ _ _ _ _ _ _ (at-loop .loop .inv .0) (at-loop-test .loop-test .taken) (omega (arith, at-if1 .if1 .left)) (at-value-at .value-at .ensures) (at-if2 .if2 .left) (at-took .took .ensures) in (omega (arith, start .pre .0), (content-ready _ (start .pre .1 .0) (ordinal-fits m _ (at-ordinal-of .ordinal-of .result) (ordinal-content m _ (at-ordinal-of .ordinal-of .result) (at-ordinal-of .ordinal-of .ensures))), a .0, a .1))
 
 envelopes-loop-again-2 : (t : ℕ) → envelopes-lts.Need-loop-again-2 (envelopes-calls t) (envelopes-at t) envelopes.Post envelopes-Inv-loop envelopes-μ-loop
 envelopes-loop-again-2 t c =
@@ -631,7 +636,7 @@ envelopes-loop-again-2 t c =
     let at-number-at2 = at-loop .before in
     let at-number-at = at-number-at2 .before in
     let start = at-number-at .before .before .before .before .before in
-    let m = table-members (start .pre .1 .0) refl (at-number-at .number-at .ensures) (at-number-at2 .number-at2 .ensures) (start .pre .1 .1) in (one-present _ _ _ _ _ _ _ _ (at-loop .loop .inv .0) (at-loop-test .loop-test .taken) (omega (arith, at-if1 .if1 .left)) (at-value-at .value-at .ensures) (at-if2 .if2 .left) (at-took .took .ensures) (at-ordinal-of .ordinal-of .result) (at-if3 .if3 .left) (at-number-at .number-at .ensures) (at-number-at2 .number-at2 .ensures) (ordinal-content m _ (at-ordinal-of .ordinal-of .result) (at-ordinal-of .ordinal-of .ensures)) (at-content .content .ensures) (at-f .f .given .1), omega (arith, at-loop-test .loop-test .taken), wrote-length (rw (at-f .f .given .1) at (at-content .content .ensures)) ∙ at-loop .loop .inv .2)
+    let m = table-members (start .pre .1 .0) refl (at-number-at .a-at .ensures) (at-number-at2 .b-at .ensures) (start .pre .1 .1) in (one-present _ _ _ _ _ _ _ _ (at-loop .loop .inv .0) (at-loop-test .loop-test .taken) (omega (arith, at-if1 .if1 .left)) (at-value-at .value-at .ensures) (at-if2 .if2 .left) (at-took .took .ensures) (at-ordinal-of .ordinal-of .result) (at-if3 .if3 .left) (at-number-at .a-at .ensures) (at-number-at2 .b-at .ensures) (ordinal-content m _ (at-ordinal-of .ordinal-of .result) (at-ordinal-of .ordinal-of .ensures)) (at-content .content .ensures) (at-f .f .given .1), omega (arith, at-loop-test .loop-test .taken), wrote-length (rw (at-f .f .given .1) at (at-content .content .ensures)) ∙ at-loop .loop .inv .2)
 
 envelopes-returns-3 : (t : ℕ) → envelopes-lts.Need-returns-3 (envelopes-calls t) (envelopes-at t) envelopes.Post envelopes-Inv-loop envelopes-μ-loop
 envelopes-returns-3 t c =
@@ -648,7 +653,7 @@ envelopes-returns-3 t c =
     let at-number-at2 = at-loop .before in
     let at-number-at = at-number-at2 .before in
     let start = at-number-at .before .before .before .before .before in
-    let m = table-members (start .pre .1 .0) refl (at-number-at .number-at .ensures) (at-number-at2 .number-at2 .ensures) (start .pre .1 .1) in one-refused _ _ _ _ _ _ _ _ (at-loop .loop .inv .0) (at-loop-test .loop-test .taken) (omega (arith, at-if1 .if1 .left)) (at-value-at .value-at .ensures) (at-if2 .if2 .left) (at-took .took .ensures) (at-ordinal-of .ordinal-of .result) (at-if3 .if3 .left) (at-number-at .number-at .ensures) (at-number-at2 .number-at2 .ensures) (ordinal-content m _ (at-ordinal-of .ordinal-of .result) (at-ordinal-of .ordinal-of .ensures)) (at-content .content .ensures) (at-f2 .f2 .given .1)
+    let m = table-members (start .pre .1 .0) refl (at-number-at .a-at .ensures) (at-number-at2 .b-at .ensures) (start .pre .1 .1) in one-refused _ _ _ _ _ _ _ _ (at-loop .loop .inv .0) (at-loop-test .loop-test .taken) (omega (arith, at-if1 .if1 .left)) (at-value-at .value-at .ensures) (at-if2 .if2 .left) (at-took .took .ensures) (at-ordinal-of .ordinal-of .result) (at-if3 .if3 .left) (at-number-at .a-at .ensures) (at-number-at2 .b-at .ensures) (ordinal-content m _ (at-ordinal-of .ordinal-of .result) (at-ordinal-of .ordinal-of .ensures)) (at-content .content .ensures) (at-f2 .f2 .given .1)
 
 envelopes-returns-4 : (t : ℕ) → envelopes-lts.Need-returns-4 (envelopes-calls t) (envelopes-at t) envelopes.Post envelopes-Inv-loop envelopes-μ-loop
 envelopes-returns-4 t c = search (needs, envelopes-end)
@@ -656,7 +661,7 @@ envelopes-returns-4 t c = search (needs, envelopes-end)
 -- ---- object: a claimed object
 
 abbrev object-calls : ℕ → object-lts.Claims
-object-calls t = (rest-from-reads.Asked, rest-from-reads.Learnt, elements-below t, elements.Post, number-at-reads.Asked, number-at-reads.Learnt, fill-up-reads.Asked, fill-up-reads.Learnt)
+object-calls t = (rest-from-reads.Asked, rest-from-reads.Learnt, elements-below t, elements.Post, fill-up-reads.Asked, fill-up-reads.Learnt, number-at-reads.Asked, number-at-reads.Learnt)
 
 object-rest-from-requires : (t : ℕ) → object-lts.Need-rest-from-requires (object-calls t) (object-at t) object.Post
 object-rest-from-requires t c κs =
@@ -692,7 +697,7 @@ object-returns t c =
 -- ---- out_of_line: vector, box, table and union
 
 abbrev out-of-line-calls : ℕ → out-of-line-lts.Claims
-out-of-line-calls t = (number-at-reads.Asked, number-at-reads.Learnt, vector-opened-reads.Asked, vector-opened-reads.Learnt, object-below t, object.Post, passed-on-reads.Asked, passed-on-reads.Learnt, box-opened-reads.Asked, box-opened-reads.Learnt, single-below t, single.Post, table-opened-reads.Asked, table-opened-reads.Learnt, rest-from-reads.Asked, rest-from-reads.Learnt, envelopes-below t, envelopes.Post, union-member-reads.Asked, union-member-reads.Learnt, content-below t, content.Post)
+out-of-line-calls t = (kind-at-reads.Asked, kind-at-reads.Learnt, a-at-reads.Asked, a-at-reads.Learnt, b-at-reads.Asked, b-at-reads.Learnt, c-at-reads.Asked, c-at-reads.Learnt, number-at-reads.Asked, number-at-reads.Learnt, vector-opened-reads.Asked, vector-opened-reads.Learnt, object-below t, object.Post, passed-on-reads.Asked, passed-on-reads.Learnt, box-opened-reads.Asked, box-opened-reads.Learnt, single-below t, single.Post, table-opened-reads.Asked, table-opened-reads.Learnt, rest-from-reads.Asked, rest-from-reads.Learnt, envelopes-below t, envelopes.Post, union-member-reads.Asked, union-member-reads.Learnt, content-below t, content.Post)
 
 out-of-line-vector-opened-requires : (t : ℕ) → out-of-line-lts.Need-vector-opened-requires (out-of-line-calls t) (out-of-line-at t) out-of-line.Post
 out-of-line-vector-opened-requires t c κs =
@@ -701,7 +706,7 @@ out-of-line-vector-opened-requires t c κs =
     let at-number-at2 = at-if1 .before .before .before in
     let at-number-at = at-number-at2 .before in
     let start = at-number-at .before .before .before .before .before in
-    let a = vector-record _ _ (at-number-at .number-at .ensures) (start .pre .1 .2) (at-if1 .if1 .taken) in (ask-stands a, omega (arith, a .inside, a .free), size-small (start .pre .1 .0) _ (vector-in-use (start .pre .1 .0) (at-number-at .number-at .ensures) (at-number-at2 .number-at2 .ensures) (at-if1 .if1 .taken)) (at-number-at5 .number-at5 .ensures))
+    let a = vector-record _ _ (at-number-at .kind-at .ensures) (start .pre .1 .2) (at-if1 .if1 .taken) in (ask-stands a, omega (arith, a .inside, a .free), size-small (start .pre .1 .0) _ (vector-in-use (start .pre .1 .0) (at-number-at .kind-at .ensures) (at-number-at2 .a-at .ensures) (at-if1 .if1 .taken)) (at-number-at5 .number-at .ensures))
 
 out-of-line-sub-object : (t : ℕ) → out-of-line-lts.Need-sub-object (out-of-line-calls t) (out-of-line-at t) out-of-line.Post
 out-of-line-sub-object t c =
@@ -720,7 +725,7 @@ out-of-line-object-requires t c κs =
     let at-number-at2 = at-number-at3 .before in
     let at-number-at = at-number-at2 .before in
     let start = at-number-at .before .before .before .before .before in
-    let l = level-left _ _ (at-vector-opened .vector-opened .ensures .1) (at-x .x .given .1) in let used = vector-in-use (start .pre .1 .0) (at-number-at .number-at .ensures) (at-number-at2 .number-at2 .ensures) (at-if1 .if1 .taken) in let k = vector-claimed _ _ _ _ _ _ _ _ _ _ (at-number-at .number-at .ensures) (start .pre .1 .2) (at-if1 .if1 .taken) (at-number-at2 .number-at2 .ensures) (at-number-at3 .number-at3 .ensures) (at-number-at4 .number-at4 .ensures) (start .pre .1 .0) (at-number-at5 .number-at5 .ensures) (at-vector-opened .vector-opened .ensures .0) (at-x .x .given .1) in let few = few-elements (start .pre .1 .0) _ used _ (object-few _ _ k) in (omega (arith, start .pre .0, l, few, row-in-use (start .pre .1 .0) _ used), (ready-at (start .pre .1 .0) _ _ (omega arith) used, k))
+    let l = level-left _ _ (at-vector-opened .vector-opened .ensures .1) (at-x .x .given .1) in let used = vector-in-use (start .pre .1 .0) (at-number-at .kind-at .ensures) (at-number-at2 .a-at .ensures) (at-if1 .if1 .taken) in let k = vector-claimed _ _ _ _ _ _ _ _ _ _ (at-number-at .kind-at .ensures) (start .pre .1 .2) (at-if1 .if1 .taken) (at-number-at2 .a-at .ensures) (at-number-at3 .b-at .ensures) (at-number-at4 .c-at .ensures) (start .pre .1 .0) (at-number-at5 .number-at .ensures) (at-vector-opened .vector-opened .ensures .0) (at-x .x .given .1) in let few = few-elements (start .pre .1 .0) _ used _ (object-few _ _ k) in (omega (arith, start .pre .0, l, few, row-in-use (start .pre .1 .0) _ used), (ready-at (start .pre .1 .0) _ _ (omega arith) used, k))
 
 out-of-line-returns : (t : ℕ) → out-of-line-lts.Need-returns (out-of-line-calls t) (out-of-line-at t) out-of-line.Post
 out-of-line-returns t c =
@@ -733,7 +738,7 @@ out-of-line-returns t c =
     let at-number-at2 = at-number-at3 .before in
     let at-number-at = at-number-at2 .before in
     let start = at-number-at .before .before .before .before .before in
-    vector-closed _ _ _ _ _ _ _ _ _ _ (at-number-at .number-at .ensures) (start .pre .1 .2) (at-if1 .if1 .taken) (at-number-at2 .number-at2 .ensures) (at-number-at3 .number-at3 .ensures) (at-number-at4 .number-at4 .ensures) (start .pre .1 .0) (at-number-at5 .number-at5 .ensures) (at-vector-opened .vector-opened .ensures .0) (at-d .d .given .1)
+    vector-closed _ _ _ _ _ _ _ _ _ _ (at-number-at .kind-at .ensures) (start .pre .1 .2) (at-if1 .if1 .taken) (at-number-at2 .a-at .ensures) (at-number-at3 .b-at .ensures) (at-number-at4 .c-at .ensures) (start .pre .1 .0) (at-number-at5 .number-at .ensures) (at-vector-opened .vector-opened .ensures .0) (at-d .d .given .1)
 
 out-of-line-returns-2 : (t : ℕ) → out-of-line-lts.Need-returns-2 (out-of-line-calls t) (out-of-line-at t) out-of-line.Post
 out-of-line-returns-2 t c =
@@ -746,7 +751,7 @@ out-of-line-returns-2 t c =
     let at-number-at2 = at-number-at3 .before in
     let at-number-at = at-number-at2 .before in
     let start = at-number-at .before .before .before .before .before in
-    vector-refused _ _ _ _ _ _ _ _ _ _ (at-number-at .number-at .ensures) (start .pre .1 .2) (at-if1 .if1 .taken) (at-number-at2 .number-at2 .ensures) (at-number-at3 .number-at3 .ensures) (at-number-at4 .number-at4 .ensures) (start .pre .1 .0) (at-number-at5 .number-at5 .ensures) (at-vector-opened .vector-opened .ensures .0) (at-f .f .given .1)
+    vector-refused _ _ _ _ _ _ _ _ _ _ (at-number-at .kind-at .ensures) (start .pre .1 .2) (at-if1 .if1 .taken) (at-number-at2 .a-at .ensures) (at-number-at3 .b-at .ensures) (at-number-at4 .c-at .ensures) (start .pre .1 .0) (at-number-at5 .number-at .ensures) (at-vector-opened .vector-opened .ensures .0) (at-f .f .given .1)
 
 out-of-line-returns-3 : (t : ℕ) → out-of-line-lts.Need-returns-3 (out-of-line-calls t) (out-of-line-at t) out-of-line.Post
 out-of-line-returns-3 t c =
@@ -760,7 +765,7 @@ out-of-line-returns-3 t c =
     let at-number-at2 = at-number-at3 .before in
     let at-number-at = at-number-at2 .before in
     let start = at-number-at .before .before .before .before .before in
-    rw (c .passed-on .ensures) (vector-done _ _ _ _ _ _ _ _ _ _ (at-number-at .number-at .ensures) (start .pre .1 .2) (at-if1 .if1 .taken) (at-number-at2 .number-at2 .ensures) (at-number-at3 .number-at3 .ensures) (at-number-at4 .number-at4 .ensures) (start .pre .1 .0) (at-number-at5 .number-at5 .ensures) (at-vector-opened .vector-opened .ensures .0) (at-x .x .given .1) (at-object .object .ensures))
+    rw (c .passed-on .ensures) (vector-done _ _ _ _ _ _ _ _ _ _ (at-number-at .kind-at .ensures) (start .pre .1 .2) (at-if1 .if1 .taken) (at-number-at2 .a-at .ensures) (at-number-at3 .b-at .ensures) (at-number-at4 .c-at .ensures) (start .pre .1 .0) (at-number-at5 .number-at .ensures) (at-vector-opened .vector-opened .ensures .0) (at-x .x .given .1) (at-object .object .ensures))
 
 out-of-line-box-opened-requires : (t : ℕ) → out-of-line-lts.Need-box-opened-requires (out-of-line-calls t) (out-of-line-at t) out-of-line.Post
 out-of-line-box-opened-requires t c κs =
@@ -769,7 +774,7 @@ out-of-line-box-opened-requires t c κs =
     let at-number-at2 = at-if2 .before .before .before .before in
     let at-number-at = at-number-at2 .before in
     let start = at-number-at .before .before .before .before .before in
-    let a = box-record _ _ (at-number-at .number-at .ensures) (start .pre .1 .2) (at-if2 .if2 .taken) in (ask-stands a, omega (arith, a .inside, a .free), size-small (start .pre .1 .0) _ (box-in-use (start .pre .1 .0) (at-number-at .number-at .ensures) (at-number-at2 .number-at2 .ensures) (at-if2 .if2 .taken)) (at-number-at6 .number-at6 .ensures))
+    let a = box-record _ _ (at-number-at .kind-at .ensures) (start .pre .1 .2) (at-if2 .if2 .taken) in (ask-stands a, omega (arith, a .inside, a .free), size-small (start .pre .1 .0) _ (box-in-use (start .pre .1 .0) (at-number-at .kind-at .ensures) (at-number-at2 .a-at .ensures) (at-if2 .if2 .taken)) (at-number-at6 .number-at2 .ensures))
 
 out-of-line-sub-single : (t : ℕ) → out-of-line-lts.Need-sub-single (out-of-line-calls t) (out-of-line-at t) out-of-line.Post
 out-of-line-sub-single t c =
@@ -786,7 +791,7 @@ out-of-line-single-requires t c κs =
     let at-number-at2 = at-if2 .before .before .before .before in
     let at-number-at = at-number-at2 .before in
     let start = at-number-at .before .before .before .before .before in
-    let l = level-left _ _ (at-box-opened .box-opened .ensures .1) (at-x2 .x2 .given .1) in let used = box-in-use (start .pre .1 .0) (at-number-at .number-at .ensures) (at-number-at2 .number-at2 .ensures) (at-if2 .if2 .taken) in let k = box-claimed _ _ _ _ _ _ _ _ _ _ (at-number-at .number-at .ensures) (start .pre .1 .2) (at-if2 .if2 .taken) (at-number-at2 .number-at2 .ensures) (start .pre .1 .0) (at-number-at6 .number-at6 .ensures) (at-box-opened .box-opened .ensures .0) (at-x2 .x2 .given .1) in (omega (arith, start .pre .0, l, row-in-use (start .pre .1 .0) _ used), (ready-at (start .pre .1 .0) _ _ (omega arith) used, k))
+    let l = level-left _ _ (at-box-opened .box-opened .ensures .1) (at-x2 .x2 .given .1) in let used = box-in-use (start .pre .1 .0) (at-number-at .kind-at .ensures) (at-number-at2 .a-at .ensures) (at-if2 .if2 .taken) in let k = box-claimed _ _ _ _ _ _ _ _ _ _ (at-number-at .kind-at .ensures) (start .pre .1 .2) (at-if2 .if2 .taken) (at-number-at2 .a-at .ensures) (start .pre .1 .0) (at-number-at6 .number-at2 .ensures) (at-box-opened .box-opened .ensures .0) (at-x2 .x2 .given .1) in (omega (arith, start .pre .0, l, row-in-use (start .pre .1 .0) _ used), (ready-at (start .pre .1 .0) _ _ (omega arith) used, k))
 
 out-of-line-returns-4 : (t : ℕ) → out-of-line-lts.Need-returns-4 (out-of-line-calls t) (out-of-line-at t) out-of-line.Post
 out-of-line-returns-4 t c =
@@ -797,7 +802,7 @@ out-of-line-returns-4 t c =
     let at-number-at2 = at-if2 .before .before .before .before in
     let at-number-at = at-number-at2 .before in
     let start = at-number-at .before .before .before .before .before in
-    box-absent _ _ _ _ _ _ _ _ _ _ (at-number-at .number-at .ensures) (start .pre .1 .2) (at-if2 .if2 .taken) (at-number-at2 .number-at2 .ensures) (start .pre .1 .0) (at-number-at6 .number-at6 .ensures) (at-box-opened .box-opened .ensures .0) (at-d2 .d2 .given .1)
+    box-absent _ _ _ _ _ _ _ _ _ _ (at-number-at .kind-at .ensures) (start .pre .1 .2) (at-if2 .if2 .taken) (at-number-at2 .a-at .ensures) (start .pre .1 .0) (at-number-at6 .number-at2 .ensures) (at-box-opened .box-opened .ensures .0) (at-d2 .d2 .given .1)
 
 out-of-line-returns-5 : (t : ℕ) → out-of-line-lts.Need-returns-5 (out-of-line-calls t) (out-of-line-at t) out-of-line.Post
 out-of-line-returns-5 t c =
@@ -808,7 +813,7 @@ out-of-line-returns-5 t c =
     let at-number-at2 = at-if2 .before .before .before .before in
     let at-number-at = at-number-at2 .before in
     let start = at-number-at .before .before .before .before .before in
-    box-refused _ _ _ _ _ _ _ _ _ _ (at-number-at .number-at .ensures) (start .pre .1 .2) (at-if2 .if2 .taken) (at-number-at2 .number-at2 .ensures) (start .pre .1 .0) (at-number-at6 .number-at6 .ensures) (at-box-opened .box-opened .ensures .0) (at-f2 .f2 .given .1)
+    box-refused _ _ _ _ _ _ _ _ _ _ (at-number-at .kind-at .ensures) (start .pre .1 .2) (at-if2 .if2 .taken) (at-number-at2 .a-at .ensures) (start .pre .1 .0) (at-number-at6 .number-at2 .ensures) (at-box-opened .box-opened .ensures .0) (at-f2 .f2 .given .1)
 
 out-of-line-returns-6 : (t : ℕ) → out-of-line-lts.Need-returns-6 (out-of-line-calls t) (out-of-line-at t) out-of-line.Post
 out-of-line-returns-6 t c =
@@ -820,14 +825,14 @@ out-of-line-returns-6 t c =
     let at-number-at2 = at-if2 .before .before .before .before in
     let at-number-at = at-number-at2 .before in
     let start = at-number-at .before .before .before .before .before in
-    rw (c .passed-on2 .ensures) (box-done _ _ _ _ _ _ _ _ _ _ (at-number-at .number-at .ensures) (start .pre .1 .2) (at-if2 .if2 .taken) (at-number-at2 .number-at2 .ensures) (start .pre .1 .0) (at-number-at6 .number-at6 .ensures) (at-box-opened .box-opened .ensures .0) (at-x2 .x2 .given .1) (at-single .single .ensures))
+    rw (c .passed-on2 .ensures) (box-done _ _ _ _ _ _ _ _ _ _ (at-number-at .kind-at .ensures) (start .pre .1 .2) (at-if2 .if2 .taken) (at-number-at2 .a-at .ensures) (start .pre .1 .0) (at-number-at6 .number-at2 .ensures) (at-box-opened .box-opened .ensures .0) (at-x2 .x2 .given .1) (at-single .single .ensures))
 
 out-of-line-table-opened-requires : (t : ℕ) → out-of-line-lts.Need-table-opened-requires (out-of-line-calls t) (out-of-line-at t) out-of-line.Post
 out-of-line-table-opened-requires t c κs =
     let at-if3 = c .before in
     let at-number-at = at-if3 .before .before .before .before .before .before in
     let start = at-number-at .before .before .before .before .before in
-    let a = table-record _ _ (at-number-at .number-at .ensures) (start .pre .1 .2) (at-if3 .if3 .taken) in (ask-stands a, omega (arith, a .inside, a .free))
+    let a = table-record _ _ (at-number-at .kind-at .ensures) (start .pre .1 .2) (at-if3 .if3 .taken) in (ask-stands a, omega (arith, a .inside, a .free))
 
 out-of-line-rest-from-requires : (t : ℕ) → out-of-line-lts.Need-rest-from-requires (out-of-line-calls t) (out-of-line-at t) out-of-line.Post
 out-of-line-rest-from-requires t c κs =
@@ -836,7 +841,7 @@ out-of-line-rest-from-requires t c κs =
     let at-if3 = at-table-opened .before .before in
     let at-number-at = at-if3 .before .before .before .before .before .before in
     let start = at-number-at .before .before .before .before .before in
-    table-claimed _ _ _ _ _ _ _ _ _ _ (at-number-at .number-at .ensures) (start .pre .1 .2) (at-if3 .if3 .taken) (start .pre .1 .0) (at-table-opened .table-opened .ensures .0) (at-x3 .x3 .given .1) .within
+    table-claimed _ _ _ _ _ _ _ _ _ _ (at-number-at .kind-at .ensures) (start .pre .1 .2) (at-if3 .if3 .taken) (start .pre .1 .0) (at-table-opened .table-opened .ensures .0) (at-x3 .x3 .given .1) .within
 
 out-of-line-sub-envelopes-2 : (t : ℕ) → out-of-line-lts.Need-sub-envelopes-2 (out-of-line-calls t) (out-of-line-at t) out-of-line.Post
 out-of-line-sub-envelopes-2 t c =
@@ -851,7 +856,7 @@ out-of-line-envelopes-requires t c κs =
     let at-if3 = at-table-opened .before .before in
     let at-number-at = at-if3 .before .before .before .before .before .before in
     let start = at-number-at .before .before .before .before .before in
-    let l = level-left _ _ (at-table-opened .table-opened .ensures .1) (at-x3 .x3 .given .1) in let k = table-claimed _ _ _ _ _ _ _ _ _ _ (at-number-at .number-at .ensures) (start .pre .1 .2) (at-if3 .if3 .taken) (start .pre .1 .0) (at-table-opened .table-opened .ensures .0) (at-x3 .x3 .given .1) in (omega (arith, start .pre .0, l, object-few _ _ k), (ready-at (start .pre .1 .0) _ _ (omega arith) (start .pre .1 .0 .in-use), sym (at-number-at .number-at .ensures) ∙ at-if3 .if3 .taken, object-asks _ _ _ k))
+    let l = level-left _ _ (at-table-opened .table-opened .ensures .1) (at-x3 .x3 .given .1) in let k = table-claimed _ _ _ _ _ _ _ _ _ _ (at-number-at .kind-at .ensures) (start .pre .1 .2) (at-if3 .if3 .taken) (start .pre .1 .0) (at-table-opened .table-opened .ensures .0) (at-x3 .x3 .given .1) in (omega (arith, start .pre .0, l, object-few _ _ k), (ready-at (start .pre .1 .0) _ _ (omega arith) (start .pre .1 .0 .in-use), sym (at-number-at .kind-at .ensures) ∙ at-if3 .if3 .taken, object-asks _ _ _ k))
 
 out-of-line-returns-7 : (t : ℕ) → out-of-line-lts.Need-returns-7 (out-of-line-calls t) (out-of-line-at t) out-of-line.Post
 out-of-line-returns-7 t c =
@@ -860,7 +865,7 @@ out-of-line-returns-7 t c =
     let at-if3 = at-table-opened .before .before in
     let at-number-at = at-if3 .before .before .before .before .before .before in
     let start = at-number-at .before .before .before .before .before in
-    table-closed _ _ _ _ _ _ _ _ _ _ (at-number-at .number-at .ensures) (start .pre .1 .2) (at-if3 .if3 .taken) (start .pre .1 .0) (at-table-opened .table-opened .ensures .0) (at-d3 .d3 .given .1)
+    table-closed _ _ _ _ _ _ _ _ _ _ (at-number-at .kind-at .ensures) (start .pre .1 .2) (at-if3 .if3 .taken) (start .pre .1 .0) (at-table-opened .table-opened .ensures .0) (at-d3 .d3 .given .1)
 
 out-of-line-returns-8 : (t : ℕ) → out-of-line-lts.Need-returns-8 (out-of-line-calls t) (out-of-line-at t) out-of-line.Post
 out-of-line-returns-8 t c =
@@ -869,7 +874,7 @@ out-of-line-returns-8 t c =
     let at-if3 = at-table-opened .before .before in
     let at-number-at = at-if3 .before .before .before .before .before .before in
     let start = at-number-at .before .before .before .before .before in
-    table-refused _ _ _ _ _ _ _ _ _ _ (at-number-at .number-at .ensures) (start .pre .1 .2) (at-if3 .if3 .taken) (start .pre .1 .0) (at-table-opened .table-opened .ensures .0) (at-f3 .f3 .given .1)
+    table-refused _ _ _ _ _ _ _ _ _ _ (at-number-at .kind-at .ensures) (start .pre .1 .2) (at-if3 .if3 .taken) (start .pre .1 .0) (at-table-opened .table-opened .ensures .0) (at-f3 .f3 .given .1)
 
 out-of-line-returns-9 : (t : ℕ) → out-of-line-lts.Need-returns-9 (out-of-line-calls t) (out-of-line-at t) out-of-line.Post
 out-of-line-returns-9 t c =
@@ -880,7 +885,7 @@ out-of-line-returns-9 t c =
     let at-if3 = at-table-opened .before .before in
     let at-number-at = at-if3 .before .before .before .before .before .before in
     let start = at-number-at .before .before .before .before .before in
-    rw (c .passed-on3 .ensures) (table-done _ _ _ _ _ _ _ _ _ _ (at-number-at .number-at .ensures) (start .pre .1 .2) (at-if3 .if3 .taken) (start .pre .1 .0) (at-table-opened .table-opened .ensures .0) (at-x3 .x3 .given .1) _ (at-rest-from .rest-from .ensures) (at-envelopes .envelopes .ensures))
+    rw (c .passed-on3 .ensures) (table-done _ _ _ _ _ _ _ _ _ _ (at-number-at .kind-at .ensures) (start .pre .1 .2) (at-if3 .if3 .taken) (start .pre .1 .0) (at-table-opened .table-opened .ensures .0) (at-x3 .x3 .given .1) _ (at-rest-from .rest-from .ensures) (at-envelopes .envelopes .ensures))
 
 out-of-line-union-member-requires : (t : ℕ) → out-of-line-lts.Need-union-member-requires (out-of-line-calls t) (out-of-line-at t) out-of-line.Post
 out-of-line-union-member-requires t c κs =
@@ -892,7 +897,7 @@ out-of-line-union-member-requires t c κs =
     let at-number-at2 = at-number-at3 .before in
     let at-number-at = at-number-at2 .before in
     let start = at-number-at .before .before .before .before .before in
-    let q = union-else (start .pre .1 .0) (at-number-at .number-at .ensures) (start .pre .1 .1) (at-if1 .if1 .left) (at-if2 .if2 .left) (at-if3 .if3 .left) in let a = union-record _ _ (at-number-at .number-at .ensures) (start .pre .1 .2) (start .pre .1 .0 .edition) q in let m = union-members (start .pre .1 .0) (at-number-at .number-at .ensures) (at-number-at2 .number-at2 .ensures) (at-number-at3 .number-at3 .ensures) q in (ask-stands a, omega (arith, a .inside, a .free), omega (arith, at-number-at4 .number-at4 .ensures, m .1), m .0 .exist, members-rise (m .0))
+    let q = union-else (start .pre .1 .0) (at-number-at .kind-at .ensures) (start .pre .1 .1) (at-if1 .if1 .left) (at-if2 .if2 .left) (at-if3 .if3 .left) in let a = union-record _ _ (at-number-at .kind-at .ensures) (start .pre .1 .2) (start .pre .1 .0 .edition) q in let m = union-members (start .pre .1 .0) (at-number-at .kind-at .ensures) (at-number-at2 .a-at .ensures) (at-number-at3 .b-at .ensures) q in (ask-stands a, omega (arith, a .inside, a .free), omega (arith, at-number-at4 .c-at .ensures, m .1), m .0 .exist, members-rise (m .0))
 
 out-of-line-add-content : (t : ℕ) → out-of-line-lts.Need-add-content (out-of-line-calls t) (out-of-line-at t) out-of-line.Post
 out-of-line-add-content t c =
@@ -911,7 +916,7 @@ out-of-line-content-requires t c κs =
     let at-number-at2 = at-number-at3 .before in
     let at-number-at = at-number-at2 .before in
     let start = at-number-at .before .before .before .before .before in
-    let q = union-else (start .pre .1 .0) (at-number-at .number-at .ensures) (start .pre .1 .1) (at-if1 .if1 .left) (at-if2 .if2 .left) (at-if3 .if3 .left) in let m = union-members (start .pre .1 .0) (at-number-at .number-at .ensures) (at-number-at2 .number-at2 .ensures) (at-number-at3 .number-at3 .ensures) q in let a = union-asks _ _ _ _ _ (start .args .depth) _ _ _ _ (at-number-at .number-at .ensures) (at-number-at2 .number-at2 .ensures) (at-number-at3 .number-at3 .ensures) (at-number-at4 .number-at4 .ensures) q (start .pre .1 .0) (start .pre .1 .2) (at-union-member .union-member .ensures .0) (at-what .what .given .1) in (omega (arith, start .pre .0), (content-ready _ (start .pre .1 .0) (union-fits _ _ _ _ (start .args .base) (start .args .depth) _ _ _ _ (at-number-at .number-at .ensures) (at-number-at2 .number-at2 .ensures) (at-number-at3 .number-at3 .ensures) (at-number-at4 .number-at4 .ensures) q (start .pre .1 .0) (start .pre .1 .2) (at-union-member .union-member .ensures .0) (at-what .what .given .1) (m .0) (at-union-member .union-member .ensures .1)), a .0, a .1))
+    let q = union-else (start .pre .1 .0) (at-number-at .kind-at .ensures) (start .pre .1 .1) (at-if1 .if1 .left) (at-if2 .if2 .left) (at-if3 .if3 .left) in let m = union-members (start .pre .1 .0) (at-number-at .kind-at .ensures) (at-number-at2 .a-at .ensures) (at-number-at3 .b-at .ensures) q in let a = union-asks _ _ _ _ _ (start .args .depth) _ _ _ _ (at-number-at .kind-at .ensures) (at-number-at2 .a-at .ensures) (at-number-at3 .b-at .ensures) (at-number-at4 .c-at .ensures) q (start .pre .1 .0) (start .pre .1 .2) (at-union-member .union-member .ensures .0) (at-what .what .given .1) in (omega (arith, start .pre .0), (content-ready _ (start .pre .1 .0) (union-fits _ _ _ _ (start .args .base) (start .args .depth) _ _ _ _ (at-number-at .kind-at .ensures) (at-number-at2 .a-at .ensures) (at-number-at3 .b-at .ensures) (at-number-at4 .c-at .ensures) q (start .pre .1 .0) (start .pre .1 .2) (at-union-member .union-member .ensures .0) (at-what .what .given .1) (m .0) (at-union-member .union-member .ensures .1)), a .0, a .1))
 
 out-of-line-returns-10 : (t : ℕ) → out-of-line-lts.Need-returns-10 (out-of-line-calls t) (out-of-line-at t) out-of-line.Post
 out-of-line-returns-10 t c =
@@ -925,7 +930,7 @@ out-of-line-returns-10 t c =
     let at-number-at2 = at-number-at3 .before in
     let at-number-at = at-number-at2 .before in
     let start = at-number-at .before .before .before .before .before in
-    let q = union-else (start .pre .1 .0) (at-number-at .number-at .ensures) (start .pre .1 .1) (at-if1 .if1 .left) (at-if2 .if2 .left) (at-if3 .if3 .left) in union-none _ _ _ _ _ _ _ _ _ _ (at-number-at .number-at .ensures) (at-number-at2 .number-at2 .ensures) (at-number-at3 .number-at3 .ensures) (at-number-at4 .number-at4 .ensures) q (start .pre .1 .0) (start .pre .1 .2) (at-union-member .union-member .ensures .0) (at-d4 .d4 .given .1)
+    let q = union-else (start .pre .1 .0) (at-number-at .kind-at .ensures) (start .pre .1 .1) (at-if1 .if1 .left) (at-if2 .if2 .left) (at-if3 .if3 .left) in union-none _ _ _ _ _ _ _ _ _ _ (at-number-at .kind-at .ensures) (at-number-at2 .a-at .ensures) (at-number-at3 .b-at .ensures) (at-number-at4 .c-at .ensures) q (start .pre .1 .0) (start .pre .1 .2) (at-union-member .union-member .ensures .0) (at-d4 .d4 .given .1)
 
 out-of-line-returns-11 : (t : ℕ) → out-of-line-lts.Need-returns-11 (out-of-line-calls t) (out-of-line-at t) out-of-line.Post
 out-of-line-returns-11 t c =
@@ -939,7 +944,7 @@ out-of-line-returns-11 t c =
     let at-number-at2 = at-number-at3 .before in
     let at-number-at = at-number-at2 .before in
     let start = at-number-at .before .before .before .before .before in
-    let q = union-else (start .pre .1 .0) (at-number-at .number-at .ensures) (start .pre .1 .1) (at-if1 .if1 .left) (at-if2 .if2 .left) (at-if3 .if3 .left) in union-bad _ _ _ _ _ _ _ _ _ _ (at-number-at .number-at .ensures) (at-number-at2 .number-at2 .ensures) (at-number-at3 .number-at3 .ensures) (at-number-at4 .number-at4 .ensures) q (start .pre .1 .0) (start .pre .1 .2) (at-union-member .union-member .ensures .0) (at-f4 .f4 .given .1)
+    let q = union-else (start .pre .1 .0) (at-number-at .kind-at .ensures) (start .pre .1 .1) (at-if1 .if1 .left) (at-if2 .if2 .left) (at-if3 .if3 .left) in union-bad _ _ _ _ _ _ _ _ _ _ (at-number-at .kind-at .ensures) (at-number-at2 .a-at .ensures) (at-number-at3 .b-at .ensures) (at-number-at4 .c-at .ensures) q (start .pre .1 .0) (start .pre .1 .2) (at-union-member .union-member .ensures .0) (at-f4 .f4 .given .1)
 
 out-of-line-returns-12 : (t : ℕ) → out-of-line-lts.Need-returns-12 (out-of-line-calls t) (out-of-line-at t) out-of-line.Post
 out-of-line-returns-12 t c =
@@ -954,12 +959,12 @@ out-of-line-returns-12 t c =
     let at-number-at2 = at-number-at3 .before in
     let at-number-at = at-number-at2 .before in
     let start = at-number-at .before .before .before .before .before in
-    let q = union-else (start .pre .1 .0) (at-number-at .number-at .ensures) (start .pre .1 .1) (at-if1 .if1 .left) (at-if2 .if2 .left) (at-if3 .if3 .left) in rw (c .passed-on4 .ensures) (union-done _ _ _ _ _ _ _ _ _ _ (at-number-at .number-at .ensures) (at-number-at2 .number-at2 .ensures) (at-number-at3 .number-at3 .ensures) (at-number-at4 .number-at4 .ensures) q (start .pre .1 .0) (start .pre .1 .2) (at-union-member .union-member .ensures .0) (at-what .what .given .1) (at-content .content .ensures))
+    let q = union-else (start .pre .1 .0) (at-number-at .kind-at .ensures) (start .pre .1 .1) (at-if1 .if1 .left) (at-if2 .if2 .left) (at-if3 .if3 .left) in rw (c .passed-on4 .ensures) (union-done _ _ _ _ _ _ _ _ _ _ (at-number-at .kind-at .ensures) (at-number-at2 .a-at .ensures) (at-number-at3 .b-at .ensures) (at-number-at4 .c-at .ensures) q (start .pre .1 .0) (start .pre .1 .2) (at-union-member .union-member .ensures .0) (at-what .what .given .1) (at-content .content .ensures))
 
 -- ---- single: a claimed object of one value
 
 abbrev single-calls : ℕ → single-lts.Claims
-single-calls t = (rest-from-reads.Asked, rest-from-reads.Learnt, value-below t, value.Post, number-at-reads.Asked, number-at-reads.Learnt, fill-up-reads.Asked, fill-up-reads.Learnt, passed-on-reads.Asked, passed-on-reads.Learnt)
+single-calls t = (rest-from-reads.Asked, rest-from-reads.Learnt, value-below t, value.Post, fill-up-reads.Asked, fill-up-reads.Learnt, number-at-reads.Asked, number-at-reads.Learnt, passed-on-reads.Asked, passed-on-reads.Learnt)
 
 single-rest-from-requires : (t : ℕ) → single-lts.Need-rest-from-requires (single-calls t) (single-at t) single.Post
 single-rest-from-requires t c κs =
@@ -988,7 +993,7 @@ single-returns t c =
 -- ---- value: a value of any kind
 
 abbrev value-calls : ℕ → value-lts.Claims
-value-calls t = (number-at-reads.Asked, number-at-reads.Learnt, boolean-reads.Asked, boolean-reads.Learnt, number-reads.Asked, number-reads.Learnt, handle-reads.Asked, handle-reads.Learnt, has-parts-reads.Asked, has-parts-reads.Learnt, composite-below t, composite.Post, put-zeros-reads.Asked, put-zeros-reads.Learnt, numbers-reads.Asked, numbers-reads.Learnt, string-reads.Asked, string-reads.Learnt, out-of-line-below t, out-of-line.Post)
+value-calls t = (kind-at-reads.Asked, kind-at-reads.Learnt, a-at-reads.Asked, a-at-reads.Learnt, boolean-reads.Asked, boolean-reads.Learnt, number-reads.Asked, number-reads.Learnt, handle-reads.Asked, handle-reads.Learnt, has-parts-reads.Asked, has-parts-reads.Learnt, composite-below t, composite.Post, put-zeros-reads.Asked, put-zeros-reads.Learnt, b-at-reads.Asked, b-at-reads.Learnt, numbers-reads.Asked, numbers-reads.Learnt, c-at-reads.Asked, c-at-reads.Learnt, string-reads.Asked, string-reads.Learnt, out-of-line-below t, out-of-line.Post)
 
 value-boolean-requires : (t : ℕ) → value-lts.Need-boolean-requires (value-calls t) (value-at t) value.Post
 value-boolean-requires t c κs = search (needs, ask-stands)
@@ -1002,7 +1007,7 @@ value-number-requires t c κs =
     let at-number-at2 = at-if2 .before .before in
     let at-number-at = at-number-at2 .before in
     let start = at-number-at .before .before .before .before .before in
-    number-ask (start .pre .1 .0) (at-number-at .number-at .ensures) (at-if2 .if2 .taken) (at-number-at2 .number-at2 .ensures) (start .pre .1 .1)
+    number-ask (start .pre .1 .0) (at-number-at .kind-at .ensures) (at-if2 .if2 .taken) (at-number-at2 .a-at .ensures) (start .pre .1 .1)
 
 value-returns-2 : (t : ℕ) → value-lts.Need-returns-2 (value-calls t) (value-at t) value.Post
 value-returns-2 t c = search (needs, value-number)
@@ -1039,7 +1044,7 @@ value-numbers-requires t c κs =
     let at-number-at2 = at-if4 .before .before .before .before in
     let at-number-at = at-number-at2 .before in
     let start = at-number-at .before .before .before .before .before in
-    array-ask (start .pre .1 .0) (at-number-at .number-at .ensures) (at-has-parts .has-parts .ensures) (at-if5 .if5 .left) (at-if4 .if4 .taken) (at-if6 .if6 .left) (at-number-at2 .number-at2 .ensures) (at-number-at3 .number-at3 .ensures) (at-number-at4 .number-at4 .ensures) (start .pre .1 .1)
+    array-ask (start .pre .1 .0) (at-number-at .kind-at .ensures) (at-has-parts .has-parts .ensures) (at-if5 .if5 .left) (at-if4 .if4 .taken) (at-if6 .if6 .left) (at-number-at2 .a-at .ensures) (at-number-at3 .a-at2 .ensures) (at-number-at4 .b-at .ensures) (start .pre .1 .1)
 
 value-returns-6 : (t : ℕ) → value-lts.Need-returns-6 (value-calls t) (value-at t) value.Post
 value-returns-6 t c = search (needs, array-done)
@@ -1059,7 +1064,7 @@ value-out-of-line-requires t c κs =
     let at-if1 = at-if2 .before in
     let at-number-at = at-if1 .before .before in
     let start = at-number-at .before .before .before .before .before in
-    (omega (arith, start .pre .0), (start .pre .1 .0, outside-left (typeTable (start .args .rows .now) (start .args .members .now)) (start .args .row) (at-number-at .number-at .ensures) (at-if1 .if1 .left) (at-if2 .if2 .left) (at-if3 .if3 .left) (at-if4 .if4 .left) (at-if7 .if7 .left), start .pre .1 .1))
+    (omega (arith, start .pre .0), (start .pre .1 .0, outside-left (typeTable (start .args .rows .now) (start .args .members .now)) (start .args .row) (at-number-at .kind-at .ensures) (at-if1 .if1 .left) (at-if2 .if2 .left) (at-if3 .if3 .left) (at-if4 .if4 .left) (at-if7 .if7 .left), start .pre .1 .1))
 
 -- ---- all eight
 
@@ -1080,10 +1085,9 @@ pub +composite+content+elements+envelopes+object+out-of-line+single+value-spec :
     composite.Post
     composite-Inv-loop
     composite-μ-loop
-    (λ c. search needs) (λ c. search needs) (λ c κs. search needs) (λ c. search needs) (λ c. search needs) (λ c. search needs)
-    (λ c κs. search needs) (λ c. search needs) (λ c. search needs) (λ c κs. search needs) (λ c κs. search needs)
-    (λ c κs. search needs) (λ c. search needs) (composite-planned-requires t) (λ c. search needs) (composite-returns t)
-    (composite-loop-holds t) (λ c κs. search needs) (λ c. search needs) (composite-sub-put-zeros t)
+    (λ c κs. search needs) (λ c. search needs) (λ c κs. search needs) (λ c. search needs) (λ c κs. search needs)
+    (λ c κs. search needs) (λ c κs. search needs) (λ c. search needs) (composite-planned-requires t) (λ c. search needs)
+    (composite-returns t) (composite-loop-holds t) (λ c κs. search needs) (λ c. search needs) (composite-sub-put-zeros t)
     (composite-put-zeros-requires t) (composite-add-level t) (composite-loop-less t) (composite-loop-again t)
     (λ c. search needs) (λ c. search needs) (composite-array-set-from-kept t) (λ c. search needs) (composite-loop-less-2 t)
     (composite-loop-again-2 t) (λ c. search needs) (composite-value-requires t) (λ c. search needs) (λ c κs. search needs)
@@ -1107,24 +1111,22 @@ pub +composite+content+elements+envelopes+object+out-of-line+single+value-spec :
     elements.Post
     elements-Inv-loop
     elements-μ-loop
-    (λ c. search needs) (λ c κs. search needs) (λ c. search needs) (λ c. search needs) (λ c κs. search needs)
-    (elements-numbers-requires t) (λ c. search needs) (elements-returns t) (λ c κs. search needs) (λ c. search needs)
-    (λ c κs. search needs) (elements-planned-requires t) (λ c. search needs) (elements-returns-2 t) (elements-loop-holds t)
-    (elements-value-requires t) (λ c. search needs) (λ c. search needs) (λ c. search needs) (elements-returns-3 t)
-    (λ c. search needs) (λ c. search needs) (λ c. search needs) (elements-loop-again t) (λ c. search needs)
-    (elements-returns-4 t))
+    (λ c κs. search needs) (λ c κs. search needs) (elements-numbers-requires t) (λ c. search needs) (elements-returns t)
+    (λ c κs. search needs) (λ c. search needs) (λ c κs. search needs) (elements-planned-requires t) (λ c. search needs)
+    (elements-returns-2 t) (elements-loop-holds t) (elements-value-requires t) (λ c. search needs) (λ c. search needs)
+    (λ c. search needs) (elements-returns-3 t) (λ c. search needs) (λ c. search needs) (λ c. search needs)
+    (elements-loop-again t) (λ c. search needs) (elements-returns-4 t))
     (λ t. envelopes-lts.spec (envelopes-calls t)
     (envelopes-at t)
     envelopes.Post
     envelopes-Inv-loop
     envelopes-μ-loop
-    (λ c. search needs) (λ c. search needs) (λ c κs. search needs) (λ c. search needs) (λ c. search needs) (λ c. search needs)
-    (λ c κs. search needs) (λ c. search needs) (envelopes-loop-holds t) (λ c. search needs) (λ c. search needs)
-    (λ c κs. search needs) (λ c. search needs) (envelopes-returns t) (λ c κs. search needs) (λ c κs. search needs)
-    (λ c. search needs) (envelopes-returns-2 t) (λ c κs. search needs) (λ c κs. search needs) (λ c. search needs)
-    (envelopes-loop-again t) (λ c κs. search needs) (envelopes-content-requires t) (λ c. search needs) (λ c. search needs)
-    (envelopes-loop-again-2 t) (λ c. search needs) (λ c. search needs) (envelopes-returns-3 t) (λ c. search needs)
-    (envelopes-returns-4 t))
+    (λ c κs. search needs) (λ c. search needs) (λ c κs. search needs) (λ c. search needs) (envelopes-loop-holds t)
+    (λ c. search needs) (λ c. search needs) (λ c κs. search needs) (λ c. search needs) (envelopes-returns t)
+    (λ c κs. search needs) (λ c κs. search needs) (λ c. search needs) (envelopes-returns-2 t) (λ c κs. search needs)
+    (λ c κs. search needs) (λ c. search needs) (envelopes-loop-again t) (λ c κs. search needs)
+    (envelopes-content-requires t) (λ c. search needs) (λ c. search needs) (envelopes-loop-again-2 t) (λ c. search needs)
+    (λ c. search needs) (envelopes-returns-3 t) (λ c. search needs) (envelopes-returns-4 t))
     (λ t. object-lts.spec (object-calls t)
     (object-at t)
     object.Post
@@ -1134,16 +1136,17 @@ pub +composite+content+elements+envelopes+object+out-of-line+single+value-spec :
     (λ t. out-of-line-lts.spec (out-of-line-calls t)
     (out-of-line-at t)
     out-of-line.Post
-    (λ c. search needs) (λ c κs. search needs) (λ c. search needs) (λ c. search needs) (λ c κs. search needs)
-    (λ c. search needs) (λ c. search needs) (λ c. search needs) (λ c κs. search needs) (λ c. search needs) (λ c. search needs)
-    (λ c κs. search needs) (λ c κs. search needs) (λ c. search needs) (out-of-line-vector-opened-requires t) (λ c. search needs)
-    (λ c. search needs) (λ c. search needs) (out-of-line-sub-object t) (out-of-line-object-requires t) (λ c κs. search needs)
-    (λ c. search needs) (out-of-line-returns t) (λ c. search needs) (out-of-line-returns-2 t) (λ c. search needs)
-    (out-of-line-returns-3 t) (λ c κs. search needs) (λ c. search needs) (out-of-line-box-opened-requires t) (λ c. search needs)
-    (λ c. search needs) (λ c. search needs) (out-of-line-sub-single t) (out-of-line-single-requires t) (λ c κs. search needs)
-    (λ c. search needs) (out-of-line-returns-4 t) (λ c. search needs) (out-of-line-returns-5 t) (λ c. search needs)
-    (out-of-line-returns-6 t) (out-of-line-table-opened-requires t) (λ c. search needs) (λ c. search needs) (λ c. search needs)
-    (out-of-line-rest-from-requires t) (λ c. search needs) (λ c. search needs) (λ c. search needs) (out-of-line-sub-envelopes-2 t) (out-of-line-envelopes-requires t) (λ c κs. search needs) (λ c. search needs)
+    (λ c κs. search needs) (λ c κs. search needs) (λ c. search needs) (λ c κs. search needs) (λ c κs. search needs)
+    (λ c κs. search needs) (λ c. search needs) (out-of-line-vector-opened-requires t) (λ c. search needs)
+    (λ c. search needs) (λ c. search needs) (out-of-line-sub-object t) (out-of-line-object-requires t)
+    (λ c κs. search needs) (λ c. search needs) (out-of-line-returns t) (λ c. search needs) (out-of-line-returns-2 t)
+    (λ c. search needs) (out-of-line-returns-3 t) (λ c κs. search needs) (λ c. search needs)
+    (out-of-line-box-opened-requires t) (λ c. search needs) (λ c. search needs) (λ c. search needs)
+    (out-of-line-sub-single t) (out-of-line-single-requires t) (λ c κs. search needs) (λ c. search needs)
+    (out-of-line-returns-4 t) (λ c. search needs) (out-of-line-returns-5 t) (λ c. search needs) (out-of-line-returns-6 t)
+    (out-of-line-table-opened-requires t) (λ c. search needs) (λ c. search needs) (λ c. search needs)
+    (out-of-line-rest-from-requires t) (λ c. search needs) (λ c. search needs) (λ c. search needs)
+    (out-of-line-sub-envelopes-2 t) (out-of-line-envelopes-requires t) (λ c κs. search needs) (λ c. search needs)
     (out-of-line-returns-7 t) (λ c. search needs) (out-of-line-returns-8 t) (λ c. search needs) (out-of-line-returns-9 t)
     (λ c. search needs) (out-of-line-union-member-requires t) (λ c. search needs) (λ c. search needs) (λ c. search needs)
     (out-of-line-add-content t) (out-of-line-content-requires t) (λ c κs. search needs) (λ c. search needs)
@@ -1157,12 +1160,10 @@ pub +composite+content+elements+envelopes+object+out-of-line+single+value-spec :
     λ t. value-lts.spec (value-calls t)
     (value-at t)
     value.Post
-    (λ c. search needs) (λ c κs. search needs) (λ c. search needs) (λ c. search needs) (λ c κs. search needs)
-    (value-boolean-requires t) (λ c. search needs) (value-returns t) (value-number-requires t) (λ c. search needs)
-    (value-returns-2 t) (value-handle-requires t) (λ c. search needs) (value-returns-3 t) (λ c κs. search needs)
-    (value-composite-requires t) (λ c. search needs) (λ c. search needs) (value-put-zeros-requires t) (λ c. search needs)
-    (value-returns-5 t) (λ c. search needs) (λ c. search needs) (λ c. search needs) (λ c κs. search needs) (λ c. search needs)
-    (λ c. search needs) (λ c κs. search needs) (λ c. search needs) (value-numbers-requires t) (λ c. search needs)
-    (value-returns-6 t) (λ c. search needs) (λ c. search needs) (λ c κs. search needs) (λ c. search needs) (λ c. search needs)
-    (λ c κs. search needs) (value-string-requires t) (λ c. search needs) (value-returns-7 t) (value-out-of-line-requires t)
-    (λ c. search needs) (λ c. search needs)
+    (λ c κs. search needs) (λ c κs. search needs) (value-boolean-requires t) (λ c. search needs) (value-returns t)
+    (value-number-requires t) (λ c. search needs) (value-returns-2 t) (value-handle-requires t) (λ c. search needs)
+    (value-returns-3 t) (λ c κs. search needs) (value-composite-requires t) (λ c. search needs) (λ c. search needs)
+    (value-put-zeros-requires t) (λ c. search needs) (value-returns-5 t) (λ c. search needs) (λ c κs. search needs)
+    (λ c κs. search needs) (λ c. search needs) (value-numbers-requires t) (λ c. search needs) (value-returns-6 t)
+    (λ c κs. search needs) (λ c κs. search needs) (value-string-requires t) (λ c. search needs) (value-returns-7 t)
+    (value-out-of-line-requires t) (λ c. search needs) (λ c. search needs)
