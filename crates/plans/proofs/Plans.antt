@@ -1,14 +1,17 @@
 -- The plan of a row in use of a sound type table: its parts stand for the row's fields, one for one.
 -- Assumes nothing.
 use mathlib.Core.Bool.{Bool, true, false, _&&_}
-use mathlib.Core.List.{List, [], _∷_}
-use mathlib.Core.Path.{_≡_, refl, sym, _∙_}
-use Prim.Native.Nat.{ℕ, zero, suc, _+_, _-_, _≤_, _<_}
+use mathlib.Core.List.{List, [], _∷_, _++_, map}
+use mathlib.Core.Path.{_≡_, refl, sym, ap, _∙_}
+use Prim.Native.Nat.{ℕ, zero, suc, _+_, _-_, _*_, _≤_, _<_}
+use native.Mathlib.Nat.{add-zero}
 use native.Mathlib.Omega.{arith}
-use borrow.Author.Tests.{lt-ltb, lt-leb, leb-true, eq-eqb, ne-eqb, eqb-true, eqb-false}
+use borrow.Author.Tests.{lt-ltb, leb-true, eq-eqb, ne-eqb, eqb-true}
 use lib.Dec.{leb, eqb}
-use lib.ListN.{getD}
+use lib.ListN.{length, drop, getD}
+use lib.Seq.{drop-drop, getD-drop}
 use Rattle.rules.specs.Refusals.{accepted, if_then_else_}
+use Rattle.rules.specs.Bytes.{zeros}
 use Rattle.rules.specs.TypeTable.{TypeTable, rowCount, kindAt, aAt, bAt, memberRows}
 use Rattle.rules.specs.Sizes.{Field, field, layoutOf, sizeOf, fieldsOf, fieldsSize}
 use Rattle.rules.specs.Sound.{soundness}
@@ -17,12 +20,12 @@ use Rattle.layout.proofs.Rows.{both}
 use Rattle.plans.specs.declared.Plan.{Plan}
 use Rattle.nesting.specs.Nesting.{hasParts, nextPart, nextPlace}
 use Rattle.layout.specs.Ready.{Ready, widthAllowed}
-use Rattle.plans.specs.Plans.{flatWidth, widthSize, partsSize, partsFrom, partsOf, Runnable, allFlat, after, flatFrom, planOf, Planned}
+use Rattle.plans.specs.Plans.{flatWidth, widthSize, partsSize, partsFrom, partsOf, Runnable, allFlat, after, flatFrom, planOf, widthIn, fillIn, column, planAs}
 use Rattle.layout.proofs.ByKind.{size-bool, size-number, number-width, width-positive}
 use Rattle.nesting.proofs.Left.{fieldsLeft, no-members-left}
 use Rattle.nesting.proofs.Parts.{next-of}
 use Rattle.layout.proofs.Readiness.{row-few}
-use Rattle.nesting.proofs.Starts.{startOf, struct-fields, struct-size, members-below}
+use Rattle.nesting.proofs.Starts.{struct-fields, struct-size, members-below}
 
 -- The width that stands for a row.
 pub data Flat (t : TypeTable) (row : ℕ) : (width : ℕ) → Type 0 where
@@ -79,6 +82,53 @@ size-least zero = omega arith
 size-least (suc width) = rw (ne-eqb (suc width) 0 (λ e. omega arith)) (omega arith)
 
 -- ---- the plan that is made
+
+-- What stands at a place, by what the list is from there on.
+next-at : (l rest : List ℕ) (i n : ℕ) → drop i l ≡ n ∷ rest → (getD l i 0 ≡ n) × (drop (i + 1) l ≡ rest)
+next-at l rest i n e = (
+  rw (add-zero i) at (sym (getD-drop i l 0 0)) ∙ ap (λ (k : List ℕ). getD k 0 0) e,
+  sym (drop-drop 1 i l) ∙ ap (drop 1) e,
+)
+
+-- Parts are read back from the lists that they stand in.
+parts-back : (widths fills ws fs : List ℕ) (parts : List Field) (i : ℕ) → drop i widths ≡ map widthIn parts ++ ws → drop i fills ≡ map fillIn parts ++ fs
+    → partsFrom widths fills i (length parts) ≡ parts
+unfolding partsFrom
+parts-back widths fills ws fs [] i e f = refl
+parts-back widths fills ws fs (field width fill ∷ parts) i e f =
+    let w = next-at widths (map widthIn parts ++ ws) i width e in
+    let g = next-at fills (map fillIn parts ++ fs) i fill f in
+    rw (w .0, g .0, parts-back widths fills ws fs parts (i + 1) (w .1) (g .1))
+
+plan-parts : {plan : Plan} (parts : List Field) → plan ≡ planAs parts → partsOf plan ≡ parts
+unfolding planAs
+plan-parts parts e = rw e (parts-back (column widthIn parts) (column fillIn parts) (zeros (16 - length parts)) (zeros (16 - length parts)) parts 0 refl refl)
+
+module _ (rows members alignments : List ℕ) (row : ℕ) where
+  all-left : (done place left : ℕ) → length (flatFrom rows members alignments row done place left) ≡ left
+  unfolding flatFrom
+  all-left done place zero = refl
+  all-left done place (suc left) = ap suc (all-left (done + 1) _ left)
+
+  -- A plan has no more parts than it has room for.
+  pub plan-few : {plan : Plan} → plan ≡ planAs (planOf rows members alignments row) → plan .count ≤ 16
+  unfolding planAs
+  plan-few e = rw e (go (leb 256 row) (eqb (getD rows (row * 4) 0) 1) (eqb (getD rows (row * 4) 0) 7) (leb count 16) (allFlat left) refl)
+    where
+      count : ℕ
+      count = getD rows (row * 4 + 2) 0
+
+      left : List Field
+      left = flatFrom rows members alignments row 0 0 count
+
+      go : (past bool struct few flat : Bool) → leb count 16 ≡ few
+          → length (if past then [] else if bool then field 0 0 ∷ [] else if struct && few then (if flat then left else []) else []) ≤ 16
+      go true bool struct few flat f = omega arith
+      go false true struct few flat f = omega arith
+      go false false true true true f = omega (arith, all-left 0 0 count, leb-true count 16 f)
+      go false false true true false f = omega arith
+      go false false true false flat f = omega arith
+      go false false false few flat f = omega arith
 
 first-flat : (width fill : ℕ) (parts : List Field) → allFlat (field width fill ∷ parts) ≡ true → (width ≤ 8) × (allFlat parts ≡ true)
 unfolding allFlat
@@ -153,8 +203,10 @@ module _ {t : TypeTable} {sizes alignments : List ℕ} {depth row : ℕ} (ready 
       go false false true false flat b s f n = absurd (n refl)
       go false false false few flat b s f n = absurd (n refl)
 
-  pub plan-flat : {plan : Plan} → Planned plan (planOf (t .rows) (t .members) alignments row) → 0 < plan .count → FlatRow t row (partsOf plan)
-  plan-flat {plan} p h = rw (p .same) (planned-flat (λ e. some-parts (plan .widths) (plan .fills) (plan .count) h (p .same ∙ e)))
+  pub plan-flat : {plan : Plan} → plan ≡ planAs (planOf (t .rows) (t .members) alignments row) → 0 < plan .count → FlatRow t row (partsOf plan)
+  plan-flat {plan} e h =
+      let same = plan-parts (planOf (t .rows) (t .members) alignments row) e in
+      rw same (planned-flat (λ none. some-parts (plan .widths) (plan .fills) (plan .count) h (same ∙ none)))
 
   pub flat-row-size : {parts : List Field} → FlatRow t row parts → sizeOf t row ≡ partsSize parts
   unfolding fieldsSize

@@ -1,13 +1,14 @@
 -- Flat values: a bool, or a struct of bools and numbers alone. A plan has their parts as fields whose row is a width, 0 for a bool.
 -- Assumes nothing.
 use mathlib.Core.Bool.{Bool, true, _&&_}
-use mathlib.Core.List.{List, [], _∷_}
+use mathlib.Core.List.{List, [], _∷_, _++_, map}
 use mathlib.Core.Path.{_≡_}
-use Prim.Native.Nat.{ℕ, zero, suc, _+_, _-_, _*_, _≤_}
+use Prim.Native.Nat.{ℕ, zero, suc, _+_, _-_, _*_}
 use lib.Dec.{leb, eqb}
-use lib.ListN.{getD}
+use lib.ListN.{length, getD}
 use Rattle.rules.specs.declared.Layout.{Layout}
 use Rattle.rules.specs.Refusals.{if_then_else_}
+use Rattle.rules.specs.Bytes.{zeros}
 use Rattle.rules.specs.Sizes.{Field, field, fieldsSize}
 use Rattle.nesting.specs.declared.Level.{Level}
 use Rattle.plans.specs.declared.Plan.{Plan}
@@ -73,7 +74,17 @@ module _ (rows members alignments : List ℕ) (row : ℕ) where
       else if eqb (getD rows (row * 4) 0) 7 && leb (getD rows (row * 4 + 2) 0) 16 then flatMembers (getD rows (row * 4 + 2) 0)
       else []
 
--- A plan of so many parts, and the parts themselves.
-pub record Planned (plan : Plan) (parts : List Field) : Type 0 where
-  pub few : plan .count ≤ 16
-  pub same : partsOf plan ≡ parts
+-- The width and the fill of a part.
+abbrev pub widthIn : Field → ℕ
+widthIn (field width fill) = width
+
+abbrev pub fillIn : Field → ℕ
+fillIn (field width fill) = fill
+
+-- One number of each part, and zeros in the rest of a plan's sixteen places.
+abbrev pub column : (of : Field → ℕ) (parts : List Field) → List ℕ
+column of parts = map of parts ++ zeros (16 - length parts)
+
+-- The plan that has these parts.
+unfoldable pub planAs : (parts : List Field) → Plan
+planAs parts = record { count = length parts; widths = column widthIn parts; fills = column fillIn parts }

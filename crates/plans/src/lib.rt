@@ -2,7 +2,7 @@
 ghost use mathlib.Core.List.{[]};
 ghost use mathlib.Core.Path.{_≡_};
 ghost use Prim.Native.Nat.{_+_, _-_, _≤_, _<_};
-ghost use Rattle.plans.specs.Plans.{flatWidth, widthSize, flatMembers, planOf, Planned};
+ghost use Rattle.plans.specs.Plans.{flatWidth, widthSize, flatMembers, planOf, planAs};
 use nesting::Level;
 use nesting::next_part;
 use nesting::next_place;
@@ -53,7 +53,7 @@ fn flat_members(
     count: usize,
 ) -> Plan
     requires { ⌜ (row < 256) × (count ≤ 16) ⌝ }
-    ensures { λ r. ⌜ Planned r (flatMembers (now (rows .entry)) (now (members .entry)) (now (alignments .entry)) row count) ⌝ }
+    ensures { λ r. ⌜ r ≡ planAs (flatMembers (now (rows .entry)) (now (members .entry)) (now (alignments .entry)) row count) ⌝ }
 {
     let mut widths: [u32; 16] = [0; 16];
     let mut fills: [u32; 16] = [0; 16];
@@ -88,7 +88,7 @@ fn flat_members(
 }
 
 fn no_plan() -> Plan
-    ensures { λ r. ⌜ Planned r [] ⌝ }
+    ensures { λ r. ⌜ r ≡ planAs [] ⌝ }
 {
     Plan {
         count: 0,
@@ -99,7 +99,7 @@ fn no_plan() -> Plan
 
 // The plan of a row's value.
 pub fn plan_of(rows: &[u32], members: &[u32], alignments: &[u32; 256], row: usize) -> Plan
-    ensures { λ r. ⌜ Planned r (planOf (now (rows .entry)) (now (members .entry)) (now (alignments .entry)) row) ⌝ }
+    ensures { λ r. ⌜ r ≡ planAs (planOf (now (rows .entry)) (now (members .entry)) (now (alignments .entry)) row) ⌝ }
 {
     if 256 <= row {
         return no_plan();

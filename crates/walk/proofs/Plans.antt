@@ -14,10 +14,10 @@ use Rattle.rules.specs.Decode as D
 use Rattle.rules.specs.Decode.{Message, Decoder}
 use Rattle.rules.specs.Walk as W
 use Rattle.plans.specs.declared.Plan.{Plan}
-use Rattle.plans.specs.Plans.{partsSize, partsOf, Runnable, planOf, Planned}
+use Rattle.plans.specs.Plans.{partsSize, partsOf, Runnable, planOf, planAs}
 use Rattle.layout.specs.Ready.{Ready}
 use Rattle.layout.proofs.ByKind.{width-positive}
-use Rattle.plans.proofs.Plans.{Flat, a-bool, a-number, AllFlat, none, more, FlatRow, bool-row, struct-row, flat-size, flat-runnable, plan-flat, flat-row-size}
+use Rattle.plans.proofs.Plans.{Flat, a-bool, a-number, AllFlat, none, more, FlatRow, bool-row, struct-row, flat-size, flat-runnable, plan-few, plan-flat, flat-row-size}
 use Rattle.layout.proofs.Readiness.{row-size}
 use Rattle.nesting.proofs.Starts.{members-below}
 use Rattle.walk_leaves.specs.declared.cursor.Cursor.{Cursor}
@@ -58,10 +58,10 @@ module _ (m : Message) (deep : D.Deeper) where
 
 -- ---- the elements of a vector
 
-module _ {t : TypeTable} {sizes alignments : List ℕ} {depth row : ℕ} (ready : Ready t sizes alignments depth row) {plan : Plan} (p : Planned plan (planOf (t .rows) (t .members) alignments row)) (some : 0 < plan .count)
+module _ {t : TypeTable} {sizes alignments : List ℕ} {depth row : ℕ} (ready : Ready t sizes alignments depth row) {plan : Plan} (made : plan ≡ planAs (planOf (t .rows) (t .members) alignments row)) (some : 0 < plan .count)
     {size : ℕ} (s : size ≡ getD sizes row 0) where
   flat : FlatRow t row (partsOf plan)
-  flat = plan-flat ready p some
+  flat = plan-flat ready made some
 
   sized : sizeOf t row ≡ size
   sized = row-size ready row (ready .in-use) s
@@ -70,7 +70,7 @@ module _ {t : TypeTable} {sizes alignments : List ℕ} {depth row : ℕ} (ready 
       → (plan .count ≤ 16) × Runnable (partsOf plan) × (partsSize (partsOf plan) ≡ size) × Ask total 64 (count * size) at c
   planned-ask {total} {handles} {at} {c} count ask =
       let a : Ask total handles (count * size) at c = rw sized at ask in (
-        p .few,
+        plan-few (t .rows) (t .members) alignments row made,
         flat-runnable flat,
         sym (flat-row-size ready flat) ∙ sized,
         record { short = a .short; few = omega arith; inside = a .inside; free = a .free; held = omega (arith, a .held, a .few); small = a .small },

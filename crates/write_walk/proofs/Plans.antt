@@ -15,10 +15,10 @@ use Rattle.rules.specs.Encode as E
 use Rattle.rules.specs.Encode.{Encoder}
 use Rattle.rules.specs.Writer as R
 use Rattle.plans.specs.declared.Plan.{Plan}
-use Rattle.plans.specs.Plans.{partsSize, partsOf, Runnable, planOf, Planned}
+use Rattle.plans.specs.Plans.{partsSize, partsOf, Runnable, planOf, planAs}
 use Rattle.layout.specs.Ready.{Ready}
 use Rattle.layout.proofs.ByKind.{width-positive}
-use Rattle.plans.proofs.Plans.{Flat, a-bool, a-number, AllFlat, none, more, FlatRow, bool-row, struct-row, flat-runnable, plan-flat, flat-row-size}
+use Rattle.plans.proofs.Plans.{Flat, a-bool, a-number, AllFlat, none, more, FlatRow, bool-row, struct-row, flat-runnable, plan-few, plan-flat, flat-row-size}
 use Rattle.layout.proofs.Readiness.{row-size}
 use Rattle.nesting.proofs.Starts.{members-below}
 use Rattle.write_leaves.specs.declared.cursor.Cursor.{Cursor}
@@ -63,10 +63,10 @@ module _ (t : TypeTable) (deep : E.Deeper) where
 
 -- ---- the elements of a vector
 
-module _ {t : TypeTable} {sizes alignments : List ℕ} {depth row : ℕ} (ready : Ready t sizes alignments depth row) {plan : Plan} (p : Planned plan (planOf (t .rows) (t .members) alignments row)) (some : 0 < plan .count)
+module _ {t : TypeTable} {sizes alignments : List ℕ} {depth row : ℕ} (ready : Ready t sizes alignments depth row) {plan : Plan} (made : plan ≡ planAs (planOf (t .rows) (t .members) alignments row)) (some : 0 < plan .count)
     {size : ℕ} (s : size ≡ getD sizes row 0) where
   flat : FlatRow t row (partsOf plan)
-  flat = plan-flat ready p some
+  flat = plan-flat ready made some
 
   sized : sizeOf t row ≡ size
   sized = row-size ready row (ready .in-use) s
@@ -75,7 +75,7 @@ module _ {t : TypeTable} {sizes alignments : List ℕ} {depth row : ℕ} (ready 
       → (plan .count ≤ 16) × Runnable (partsOf plan) × (partsSize (partsOf plan) ≡ size) × Ask values (count * size) at 0 c
   planned-ask {values} {at} {base} {c} count ask =
       let a : Ask values (count * size) at base c = rw sized at ask in
-      (p .few, flat-runnable flat, sym (flat-row-size ready flat) ∙ sized, record { inside = omega (arith, a .inside); free = a .free; held = a .held; left = a .left })
+      (plan-few (t .rows) (t .members) alignments row made, flat-runnable flat, sym (flat-row-size ready flat) ∙ sized, record { inside = omega (arith, a .inside); free = a .free; held = a .held; left = a .left })
 
   pub planned-done : (values out out′ : List ℕ) (base at : ℕ) (c : Cursor) (count : ℕ) (r : Wrote) → Ask values (count * sizeOf t row) at base c
       → PutAsked values out out′ (count * size) at c r (E.elements (λ i. partsAs (partsOf plan)) 0 count) → ElementsPut t values out out′ base depth at c row count r

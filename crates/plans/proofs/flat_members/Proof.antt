@@ -1,9 +1,9 @@
 -- `plans::flat_members` meets its contract: what is planned so far, and then what is left, is the whole.
 -- Assumes nothing.
-use mathlib.Core.Path.{refl}
 use Prim.Native.Nat.{_-_}
 use native.Mathlib.Omega.{arith}
 use borrow.Author.Needs.{needs}
+use Rattle.rules.specs.Bytes.{zeros}
 use Rattle.plans.proofs.Planning.{size-most, Planning, planning-start, planning-end, planning-wide, planning-far, planning-more}
 use Rattle.plans.proofs.flat_members.Statement.{statement}
 use Rattle.plans.proofs.flat_members.Tie as tie
@@ -15,7 +15,8 @@ abbrev μ-loop : tie.MeasureT-loop
 μ-loop rows members alignments row count widths₀ fills₀ place₀ i₀ widths fills place i = count - i
 
 loop-holds : tie.Need-loop-holds Inv-loop μ-loop
-loop-holds c = planning-start _ _ _ _ _ _ _ refl refl
+unfolding zeros
+loop-holds c = search (needs, planning-start)
 
 returns : tie.Need-returns Inv-loop μ-loop
 returns c = planning-wide _ _ _ _ _ (c .before .before .before .before .before .loop .inv) (c .before .before .before .before .loop-test .taken) (c .before .before .before .next-part .ensures .0) (c .before .before .flat-width .ensures) (c .before .if1 .taken) (c .no-plan .ensures)
@@ -34,7 +35,7 @@ loop-again : tie.Need-loop-again Inv-loop μ-loop
 loop-again c = planning-more _ _ _ _ _ (c .before .before .before .before .before .before .before .before .loop .inv) (c .before .before .before .before .before .before .before .loop-test .taken) (c .before .before .before .before .before .before .next-part .ensures .0) (c .before .before .before .before .before .flat-width .ensures) (c .before .before .before .before .if1 .left) (c .before .before .before .width-size .ensures) (c .before .before .next-place .ensures) (c .before .gap .ensures) (c .before .before .before .before .before .before .before .before .before .before .before .pre .1) (c .if2 .left)
 
 returns-3 : tie.Need-returns-3 Inv-loop μ-loop
-returns-3 c = planning-end _ _ _ _ _ (c .before .loop .inv) (c .before .before .before .before .pre .1) (c .loop-test .left)
+returns-3 c = planning-end _ _ _ _ _ (c .before .loop .inv) (c .loop-test .left)
 
 pub flat-members-spec : {M : Type 1} → statement M
 flat-members-spec =

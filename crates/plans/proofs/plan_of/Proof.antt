@@ -2,7 +2,9 @@
 -- Assumes nothing.
 use mathlib.Core.Path.{refl}
 use borrow.Author.Needs.{needs}
-use Rattle.plans.proofs.Planning.{struct-few, one-bool, plan-past, plan-bool, plan-struct, plan-none}
+use Rattle.rules.specs.Bytes.{zeros}
+use Rattle.plans.specs.Plans.{planAs}
+use Rattle.plans.proofs.Planning.{struct-few, plan-past, plan-bool, plan-struct, plan-none}
 use Rattle.plans.proofs.plan_of.Statement.{statement}
 use Rattle.plans.proofs.plan_of.Tie as tie
 
@@ -10,7 +12,8 @@ returns : tie.Need-returns
 returns c = search (needs, plan-past)
 
 returns-2 : tie.Need-returns-2
-returns-2 c = plan-bool (c .before .before .before .before .before .args .rows .now) (c .before .before .before .before .before .args .members .now) (c .before .before .before .before .before .args .alignments .now) (c .before .before .before .before .before .args .row) (c .before .before .if1 .left) (c .before .number-at .ensures) (c .if2 .taken) (one-bool _ _ refl refl)
+unfolding planAs zeros
+returns-2 c = plan-bool (c .before .before .before .before .before .args .rows .now) (c .before .before .before .before .before .args .members .now) (c .before .before .before .before .before .args .alignments .now) (c .before .before .before .before .before .args .row) (c .before .before .if1 .left) (c .before .number-at .ensures) (c .if2 .taken) refl
 
 flat-members-requires : tie.Need-flat-members-requires
 flat-members-requires c κs = (search needs, search (needs, struct-few))

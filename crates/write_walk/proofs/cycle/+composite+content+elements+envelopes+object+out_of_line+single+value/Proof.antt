@@ -661,7 +661,7 @@ envelopes-returns-4 t c = search (needs, envelopes-end)
 -- ---- object: a claimed object
 
 abbrev object-calls : ℕ → object-lts.Claims
-object-calls t = (rest-from-reads.Asked, rest-from-reads.Learnt, elements-below t, elements.Post, fill-up-reads.Asked, fill-up-reads.Learnt, number-at-reads.Asked, number-at-reads.Learnt)
+object-calls t = (rest-from-reads.Asked, rest-from-reads.Learnt, elements-below t, elements.Post, number-at-reads.Asked, number-at-reads.Learnt, fill-up-reads.Asked, fill-up-reads.Learnt)
 
 object-rest-from-requires : (t : ℕ) → object-lts.Need-rest-from-requires (object-calls t) (object-at t) object.Post
 object-rest-from-requires t c κs =
@@ -964,7 +964,7 @@ out-of-line-returns-12 t c =
 -- ---- single: a claimed object of one value
 
 abbrev single-calls : ℕ → single-lts.Claims
-single-calls t = (rest-from-reads.Asked, rest-from-reads.Learnt, value-below t, value.Post, fill-up-reads.Asked, fill-up-reads.Learnt, number-at-reads.Asked, number-at-reads.Learnt, passed-on-reads.Asked, passed-on-reads.Learnt)
+single-calls t = (rest-from-reads.Asked, rest-from-reads.Learnt, value-below t, value.Post, number-at-reads.Asked, number-at-reads.Learnt, fill-up-reads.Asked, fill-up-reads.Learnt, passed-on-reads.Asked, passed-on-reads.Learnt)
 
 single-rest-from-requires : (t : ℕ) → single-lts.Need-rest-from-requires (single-calls t) (single-at t) single.Post
 single-rest-from-requires t c κs =
