@@ -10,3 +10,6 @@ pub mod Chain
 pub mod Steps
 pub mod Going
 pub mod Turns
+pub mod Algebra
+pub mod Runs
+pub mod Work

@@ -5,7 +5,7 @@ pub mod Contents
 pub mod Numbers
 pub mod NoParts
 pub mod TableEnvelopes
-pub mod Starts
+pub mod Rows
 pub mod Plans
 pub mod Turns
 pub mod OneMember

@@ -14,14 +14,15 @@ use Rattle.rules.specs.Bytes.{roundUp}
 use Rattle.rules.specs.TypeTable.{TypeTable, rowCount, kindAt, aAt, bAt, rowOf, memberRows}
 use Rattle.rules.specs.Sizes.{layoutOf, sizeOf, largestAlignment, fieldsFrom, fieldsOf}
 use Rattle.rules.specs.Decode as D
-use Rattle.rules.specs.Walk as W
 use Rattle.layout.proofs.Rows.{both}
 use Rattle.nesting.specs.Nesting.{hasParts}
 use Rattle.layout.specs.Ready.{Ready}
 use Rattle.layout.proofs.Below.{AllBelow, more}
 use Rattle.nesting.proofs.Items.{Item, value, gap, itemsOf, sizeOfItems, fields-size}
 use Rattle.nesting.proofs.Left.{fieldsLeft}
+use Rattle.plans.proofs.Rows.{row-start}
 use Rattle.layout.proofs.Readiness.{row-size, ready-at}
+use Rattle.nesting.proofs.Work.{WorkLeft, item-on, item-refused, work-end}
 use Rattle.nesting.proofs.Starts.{startOf, struct-fields, members-below, start-size}
 use Rattle.walk_leaves.specs.declared.cursor.Cursor.{Cursor}
 use Rattle.walk_leaves.specs.declared.cursor.Walked.{Walked}
@@ -29,8 +30,9 @@ use Rattle.walk_leaves.specs.declared.cursor.Walked.the-variants.{On, Refused}
 use Rattle.walk_leaves.specs.Doing.{message, Did, Ask}
 use Rattle.walk_leaves.specs.Parts.{DidNeither}
 use Rattle.walk.specs.Walking.{walkRow, ValueDid}
-use Rattle.walk.proofs.Starts.{begins}
-use Rattle.walk_leaves.proofs.Work.{WorkLeft, work-start, item-on, item-refused, work-end}
+use Rattle.walk.proofs.Rows.{rows-walked}
+use Rattle.walk_leaves.proofs.Reading.{reading}
+use Rattle.walk_leaves.proofs.Steps.{did-more}
 
 -- ---- what it is made of
 
@@ -107,16 +109,10 @@ module _ {t : TypeTable} {sizes alignments : List ℕ} {depth row : ℕ} (ready 
   module _ (bytes : List ℕ) (handles at : ℕ) (v v′ o o′ : List ℕ) (c : Cursor) (ask : Ask (length bytes) handles (sizeOf t row) at c) where
     abbrev Left : (v″ o″ : List ℕ) (d : Cursor) → List Item → (place : ℕ) → Type 0
     Left v″ o″ d is place =
-        WorkLeft (message t bytes handles) (layoutOf t) (walkRow t bytes handles depth) (length bytes) handles (sizeOf t row)
-        (walkRow t bytes handles depth row at (c .next) (c .handles)) v o c v″ o″ d is place
+        WorkLeft (reading (message t bytes handles)) (layoutOf t) (walkRow t bytes handles depth) (sizeOf t row) at (walkRow t bytes handles depth row) (v, o) c (v″, o″) d is place
 
     start : Left v o c (value part ∷ gap (sizeOf t row - sizeOf t part) ∷ []) at
-    start =
-        let m = message t bytes handles in
-        let fields = fieldsLeft t (startOf row at) at in
-        rw (items at) at (work-start m (layoutOf t) (walkRow t bytes handles depth) (length bytes) handles v o c row (itemsOf fields) at ask
-        (begins m (W.levels m depth) row (ready .sound) (ready .in-use) at parts)
-        (start-size t row (ready .sound) (ready .in-use) parts at ∙ sym (fields-size (layoutOf t) fields)))
+    start = rw (← (items at)) (row-start (rows-walked t bytes handles depth (ready .sound)) row (ready .in-use) parts ask)
 
     module _ {x : Walked} (did : ValueDid t bytes handles depth v v′ o o′ at c part x) where
       pub member-refused : {f : Fault} → x ≡ Refused f → ValueDid t bytes handles depth v v′ o o′ at c row (Refused f)
@@ -125,15 +121,15 @@ module _ {t : TypeTable} {sizes alignments : List ℕ} {depth row : ℕ} (ready 
       pub member-filled : {d : Cursor} → x ≡ On d → {size whole : ℕ} → size ≡ getD sizes part 0 → whole ≡ getD sizes row 0
           → (r : Walked) → DidNeither bytes 0 (at + size) d r (λ m. D.fill m ((at + whole) - (at + size))) → ValueDid t bytes handles depth v v′ o o′ at c row r
       member-filled {d} same {size} {whole} s w r filled =
-          end r (rw (fill, ← (row-size ready part part-used s)) at (filled t v′ o′ handles (left .asks .free) (left .asks .held)))
+          end r (did-more (sizeOf t row - sizeOf t part) (omega arith) (rw (fill, ← (row-size ready part part-used s)) at (filled t v′ o′ handles (left .work .asks .free) (left .work .asks .held))))
         where
           left : Left v′ o′ d (gap (sizeOf t row - sizeOf t part) ∷ []) (at + sizeOf t part)
-          left = item-on start (rw same at did) (omega arith)
+          left = item-on start (rw same at did)
 
           fill : (at + whole) - (at + size) ≡ sizeOf t row - sizeOf t part
           fill = omega (arith, row-size ready part part-used s, row-size ready row (ready .in-use) w)
 
-          end : (r : Walked) → Did (length bytes) handles 0 v′ v′ o′ o′ d r (D.fill (message t bytes handles) (sizeOf t row - sizeOf t part) (at + sizeOf t part) (d .next) (d .handles))
+          end : (r : Walked) → Did (length bytes) handles (sizeOf t row - sizeOf t part) v′ v′ o′ o′ d r (D.fill (message t bytes handles) (sizeOf t row - sizeOf t part) (at + sizeOf t part) (d .next) (d .handles))
               → ValueDid t bytes handles depth v v′ o o′ at c row r
-          end (On e) q = work-end (item-on left q (omega arith))
+          end (On e) q = work-end (item-on left q)
           end (Refused f) q = item-refused left q

@@ -1,7 +1,7 @@
 -- A table's envelopes in turn: absent ones, and those with content.
 -- Assumes nothing.
 use mathlib.Core.List.{List}
-use mathlib.Core.Path.{_≡_, sym, ap, _∙_}
+use mathlib.Core.Path.{_≡_, refl, sym, ap, _∙_}
 use Prim.Native.Nat.{ℕ, _+_, _-_, _*_, _≤_, _<_}
 use native.Mathlib.Omega.{arith}
 use borrow.Author.Tests.{eq-eqb, ne-eqb}
@@ -18,6 +18,7 @@ use Rattle.rules.specs.Walk as W
 use Rattle.ordinals.specs.declared.Ordinal.{Ordinal}
 use Rattle.ordinals.specs.Ordinals.{ordinalIs, halved}
 use Rattle.ordinals.proofs.Members.{MembersRise, ordinal-content}
+use Rattle.nesting.proofs.Runs.{RunLeft, run-start, run-asks, run-on, run-refused, run-end}
 use Rattle.walk_leaves.specs.declared.cursor.Cursor.{Cursor}
 use Rattle.walk_leaves.specs.declared.cursor.Walked.{Walked}
 use Rattle.walk_leaves.specs.declared.cursor.Walked.the-variants.{On, Refused}
@@ -26,21 +27,20 @@ use Rattle.walk.specs.Walking.{here, envelopeAt, ContentDid, EnvelopesDi
 use Rattle.walk_leaves.proofs.Steps.{did-stop, did-one}
 use Rattle.walk_records.proofs.Giving.{Gave, did-gave, ask-gave}
 use Rattle.walk_records.proofs.Zeros.{zero-word, nonzero-word}
-use Rattle.walk_leaves.proofs.Runs.{RunLeft, run-start, run-asks, run-on, run-refused, run-end}
+use Rattle.walk_leaves.proofs.Reading.{reading}
 
 -- The envelopes from the one after `i` on.
 abbrev pub EnvelopesLeft : (t : TypeTable) (bytes : List ℕ) (handles depth row count at : ℕ) (v v′ o o′ : List ℕ) (c d : Cursor) (i : ℕ) → Type 0
 EnvelopesLeft t bytes handles depth row count at v v′ o o′ c d i =
-    RunLeft (length bytes) handles 8 (envelopeAt t bytes handles depth row count) (count * 8)
-    (D.elements 8 (envelopeAt t bytes handles depth row count) 1 count at (c .next) (c .handles)) v v′ o o′ c d (i + 1) (count - i) (at + i * 8)
+    RunLeft (reading (here t bytes handles depth)) 8 (envelopeAt t bytes handles depth row count) (count * 8) at
+    (D.elements 8 (envelopeAt t bytes handles depth row count) 1 count) (v, o) c (v′, o′) d (i + 1) (count - i) (at + i * 8)
 
 module _ (t : TypeTable) (bytes : List ℕ) (handles depth row count at : ℕ) (v o : List ℕ) (c : Cursor) where
   pub envelopes-start : Ask (length bytes) handles (count * 8) at c → EnvelopesLeft t bytes handles depth row count at v v o o c c 0
   envelopes-start a =
-      let s : 0 + 1 ≡ 1 = omega arith in
       let r : count - 0 ≡ count = omega arith in
       let p : at + 0 * 8 ≡ at = omega arith in
-      rw (s, r, p) (run-start 1 count at a)
+      rw (r, p) (run-start 1 count at refl a)
 
   module _ {v′ o′ : List ℕ} {d : Cursor} {i : ℕ} (r : EnvelopesLeft t bytes handles depth row count at v v′ o o′ c d i) where
     pub envelopes-end : count ≤ i → EnvelopesDid t bytes handles depth v v′ o o′ at c row count (On d)

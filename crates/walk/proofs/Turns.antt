@@ -2,54 +2,47 @@
 -- Assumes nothing.
 use mathlib.Core.Bool.{Bool, true, false}
 use mathlib.Core.List.{List}
-use mathlib.Core.Path.{_≡_, refl, sym, ap, _∙_}
+use mathlib.Core.Path.{_≡_, refl, ap, _∙_}
 use Prim.Native.Nat.{ℕ, _+_, _-_, _≤_, _<_}
 use native.Mathlib.Omega.{arith}
 use lib.ListN.{length, getD, set}
 use lib.Seq.{length-sets}
 use Rattle.rules.specs.declared.Fault.{Fault}
-use Rattle.rules.specs.Refusals.{accepted}
 use Rattle.rules.specs.TypeTable.{TypeTable}
 use Rattle.rules.specs.Sizes.{layoutOf, sizeOf}
-use Rattle.rules.specs.Sound.{soundness}
 use Rattle.rules.specs.Trace.{objectList}
 use Rattle.rules.specs.Decode as D
-use Rattle.rules.specs.Walk as W
 use Rattle.nesting.specs.declared.Level.{Level}
 use Rattle.nesting.specs.declared.Step.{Step}
 use Rattle.nesting.specs.declared.Step.the-variants.{Fill, Into, Call, Out, Done}
 use Rattle.nesting.specs.Nesting.{hasParts, nextStep}
 use Rattle.layout.specs.Ready.{Ready}
-use Rattle.nesting.proofs.Items.{Item, itemsOf, fields-size}
-use Rattle.nesting.proofs.Left.{advanced, fieldsLeft}
-use Rattle.nesting.proofs.Starts.{startOf, start-size}
+use Rattle.nesting.proofs.Items.{Item}
+use Rattle.nesting.proofs.Left.{advanced}
+use Rattle.nesting.proofs.Starts.{startOf}
 use Rattle.nesting.proofs.Steps.{Known, Stepped, fuel}
-use Rattle.nesting.proofs.Going.{Going, Bounded, Opens}
+use Rattle.nesting.proofs.Going.{Going, Bounded}
+use Rattle.plans.proofs.Rows.{row-start, rows-open}
 use Rattle.nesting.proofs.Turns as Nested
+use Rattle.nesting.proofs.Work.{WorkLeft, item-asks, item-on, item-refused, work-end}
 use Rattle.walk_leaves.specs.declared.cursor.Cursor.{Cursor}
 use Rattle.walk_leaves.specs.declared.cursor.Walked.{Walked}
 use Rattle.walk_leaves.specs.declared.cursor.Walked.the-variants.{On, Refused}
 use Rattle.walk_leaves.specs.Doing.{message, valuesOf, Did, Ask}
 use Rattle.walk_leaves.specs.Parts.{DidNeither}
 use Rattle.walk.specs.Walking.{walkRow, ValueDid}
-use Rattle.walk.proofs.Starts.{begins}
-use Rattle.walk_leaves.proofs.Work.{WorkLeft, work-into, work-start, item-asks, item-on, item-refused, work-end}
+use Rattle.walk.proofs.Rows.{rows-walked}
+use Rattle.walk_leaves.proofs.Steps.{did-more}
+use Rattle.walk_leaves.proofs.Reading.{reading}
 
 module _ (t : TypeTable) (bytes : List ℕ) (handles depth top at : ℕ) (v o : List ℕ) (c : Cursor) where
   -- So much of the value is left to walk.
   abbrev pub ValueLeft : (v′ o′ : List ℕ) (d : Cursor) → List Item → (place : ℕ) → Type 0
   ValueLeft v′ o′ d is place =
-      WorkLeft (message t bytes handles) (layoutOf t) (walkRow t bytes handles depth)
-      (length bytes) handles (sizeOf t top) (walkRow t bytes handles depth top at (c .next) (c .handles)) v o c v′ o′ d is place
+      WorkLeft (reading (message t bytes handles)) (layoutOf t) (walkRow t bytes handles depth) (sizeOf t top) at (walkRow t bytes handles depth top) (v, o) c (v′, o′) d is place
 
   bounded : (v′ o′ : List ℕ) (d : Cursor) → Bounded t (ValueLeft v′ o′ d)
-  bounded v′ o′ d is place w = omega (arith, w .asks .inside, w .asks .short)
-
-  opens : soundness t ≡ accepted tt → (v′ o′ : List ℕ) (d : Cursor) → Opens t (ValueLeft v′ o′ d)
-  opens sound v′ o′ d row rest place parts used w =
-      let m = message t bytes handles in
-      let fields = fieldsLeft t (startOf row place) place in
-      work-into (itemsOf fields) w (begins m (W.levels m depth) row sound used place parts) (start-size t row sound used parts place ∙ sym (fields-size (layoutOf t) fields))
+  bounded v′ o′ d is place w = omega (arith, w .work .asks .inside, w .work .asks .short)
 
   -- What the loop keeps.
   pub record Walking (none : Level) (alignments v′ o′ : List ℕ) (kept : List Level) (around : ℕ) (level : Level) (due : Bool) (place : ℕ) (d : Cursor) : Type 0 where
@@ -60,13 +53,9 @@ module _ {t : TypeTable} {sizes alignments bytes : List ℕ} {handles depth top 
   pub walking-start : (none : Level) (kept : List Level) → length kept ≡ 8 → hasParts (t .rows) top ≡ true → Ask (length bytes) handles (sizeOf t top) at c
       → Walking t bytes handles depth top at v o c none alignments v o kept 0 (startOf top at) false at c
   walking-start none kept h parts a =
-      let m = message t bytes handles in
-      let fields = fieldsLeft t (startOf top at) at in
       record {
         lengths = (refl, refl);
-        going = Nested.going-start ready (ValueLeft t bytes handles depth top at v o c v o c) none kept h parts
-            (work-start m (layoutOf t) (walkRow t bytes handles depth) (length bytes) handles v o c top (itemsOf fields) at a
-            (begins m (W.levels m depth) top (ready .sound) (ready .in-use) at parts) (start-size t top (ready .sound) (ready .in-use) parts at ∙ sym (fields-size (layoutOf t) fields)));
+        going = Nested.going-start ready (ValueLeft t bytes handles depth top at v o c v o c) none kept h parts (row-start (rows-walked t bytes handles depth (ready .sound)) top (ready .in-use) parts a);
       }
 
   -- ---- the turns
@@ -80,8 +69,8 @@ module _ {t : TypeTable} {sizes alignments bytes : List ℕ} {handles depth top 
     state-known = Nested.state-known ready short (w .going)
 
     filled : (next : ℕ) {x r : Walked} → DidNeither bytes 0 place d x (λ m. D.fill m (next - place)) → x ≡ r
-        → Did (length bytes) handles 0 v′ v′ o′ o′ d r (D.fill (message t bytes handles) (next - place) place (d .next) (d .handles))
-    filled next did same = rw same at (did t v′ o′ handles (w .going .work .asks .free) (w .going .work .asks .held))
+        → Did (length bytes) handles (next - place) v′ v′ o′ o′ d r (D.fill (message t bytes handles) (next - place) place (d .next) (d .handles))
+    filled next did same = did-more (next - place) (omega arith) (rw same at (did t v′ o′ handles (w .going .work .work .asks .free) (w .going .work .work .asks .held)))
 
     module _ {step : Step} (e : step ≡ nextStep (t .rows) (t .members) level alignments due place around) where
       is : {s : Step} → step ≡ s → Stepped (t .rows) (t .members) level alignments place around due s
@@ -95,7 +84,7 @@ module _ {t : TypeTable} {sizes alignments bytes : List ℕ} {handles depth top 
       turn-filled {next} q {d′ = d′} did same =
           let fill = Nested.turn-fill ready short (is q) (w .going) in
           let on : place + (next - place) ≡ next = omega (arith, fill .0) in
-          let left = item-on (fill .2) (filled next did same) (omega arith) in
+          let left = item-on (fill .2) (filled next did same) in
           let turn = Nested.turn-filled ready short (is q) (w .going) (ValueLeft t bytes handles depth top at v o c v′ o′ d′) (rw on at left) in
           (record { lengths = w .lengths; going = turn .0 }, turn .1)
 
@@ -107,7 +96,7 @@ module _ {t : TypeTable} {sizes alignments bytes : List ℕ} {handles depth top 
           → Walking t bytes handles depth top at v o c none alignments v′ o′ (set kept around level) (around + 1) (startOf part place) due place d
           × (fuel (t .rows) (startOf part place) due place (around + 1) < fuel (t .rows) level due place around) × (around < 8)
       turn-into q =
-          let turn = Nested.turn-into ready short (is q) (w .going) (opens t bytes handles depth top at v o c (ready .sound) v′ o′ d) in
+          let turn = Nested.turn-into ready short (is q) (w .going) (rows-open (rows-walked t bytes handles depth (ready .sound))) in
           (record { lengths = w .lengths; going = turn .0 }, turn .1, turn .2)
 
       pub turn-call : {part : ℕ} → step ≡ Call part → Ready t sizes alignments depth part × Ask (length bytes) handles (sizeOf t part) place d × (part < top)
@@ -120,7 +109,7 @@ module _ {t : TypeTable} {sizes alignments bytes : List ℕ} {handles depth top 
       turn-called {part} q {v″} {o″} {d′ = d′} did same size =
           let call = Nested.turn-call ready short (is q) (w .going) in
           let on : ValueDid t bytes handles depth v′ v″ o′ o″ place d part (On d′) = rw same at did in
-          let turn = Nested.turn-called ready short (is q) (w .going) size (ValueLeft t bytes handles depth top at v o c v″ o″ d′) (bounded t bytes handles depth top at v o c v″ o″ d′) (item-on (call .2) on (omega arith)) in
+          let turn = Nested.turn-called ready short (is q) (w .going) size (ValueLeft t bytes handles depth top at v o c v″ o″ d′) (bounded t bytes handles depth top at v o c v″ o″ d′) (item-on (call .2) on) in
           let walked = walkRow t bytes handles depth part place (d .next) (d .handles) in (
             record {
               lengths = (ap length (on .valued) ∙ length-sets v′ (d .values) (valuesOf walked) ∙ w .lengths .0, ap length (on .listed) ∙ length-sets o′ (d .objects) (objectList (D.traceOf walked)) ∙ w .lengths .1);

@@ -2,7 +2,7 @@
 -- Assumes nothing.
 use mathlib.Core.Bool.{true, _&&_}
 use mathlib.Core.List.{List, [], _∷_}
-use mathlib.Core.Path.{_≡_, refl, sym, _∙_}
+use mathlib.Core.Path.{_≡_, refl, sym, ap, _∙_}
 use Prim.Native.Nat.{ℕ, zero, suc, _+_, _-_, _*_, _≤_, _<_}
 use native.Mathlib.Nat.{add-zero}
 use native.Mathlib.Omega.{arith}
@@ -11,7 +11,7 @@ use lib.Dec.{eqb}
 use lib.ListN.{getD, take, drop}
 use Rattle.rules.specs.Sizes.{Field, field, fieldsSize}
 use Rattle.rules.specs.Decode as D
-use Rattle.rules.specs.Decode.{Message}
+use Rattle.rules.specs.Decode.{Message, Decoder}
 use Rattle.rules.specs.Envelope.{decodeWord}
 use Rattle.rules.specs.Records.{readNumber}
 use Rattle.rules.specs.Walk as W
@@ -20,16 +20,16 @@ use Rattle.words.proofs.Bits.{part-none-above}
 use Rattle.words.proofs.Loads.{word-byte}
 use Rattle.layout.proofs.Rows.{both}
 use Rattle.plans.specs.declared.Plan.{Plan}
-use Rattle.plans.specs.Plans.{widthLayout, partsSize, partsFrom, partsOf}
+use Rattle.plans.specs.Plans.{partsSize, partsFrom, partsOf}
 use Rattle.layout.specs.Ready.{widthAllowed}
 use Rattle.walk_leaves.specs.declared.cursor.Cursor.{Cursor}
 use Rattle.walk_leaves.specs.declared.cursor.Walked.the-variants.{On}
 use Rattle.walk_leaves.specs.Doing.{message, Ask}
 use Rattle.walk_leaves.specs.Parts.{boolAt, numbersAt, DidValues}
-use Rattle.walk_leaves.specs.Planning.{widthAt, partsAt, DidAsked}
-use Rattle.walk_leaves.proofs.Results.{then-same, then-nothing}
+use Rattle.walk_leaves.specs.Planning.{partsAt, DidAsked}
+use Rattle.walk_leaves.proofs.Reading.{no-fill, nothing-first, nothing-last}
+use Rattle.walk_leaves.proofs.Results.{then-same}
 use Rattle.walk_leaves.proofs.Steps.{did-more}
-use Rattle.walk_leaves.proofs.Work.{no-fill}
 
 -- ---- the plan
 
@@ -44,10 +44,9 @@ bool-plan plan e =
 
 module _ (m : Message) where
   -- No fill follows a bool alone.
-  pub one-bool : (at n u : ℕ) → boolAt m at n u ≡ partsAt (field 0 0 ∷ []) m at n u
-  unfolding W.fields D.sequence
-  one-bool at n u =
-      sym (then-same (boolAt m at n u) (λ n₁ u₁. rw (no-fill m widthLayout (widthAt m) (at + 1) n₁ u₁)) ∙ then-nothing (boolAt m at n u))
+  pub one-bool : partsAt (field 0 0 ∷ []) m ≡ boolAt m
+  unfolding W.fields
+  one-bool = rw (no-fill m, nothing-first D.nothing, nothing-last 1 (boolAt m))
 
   -- A bool that is not above 1 is a number of one byte, and so is a run of them.
   bool-number : (at n u : ℕ) → getD (m .bytes) at 0 ≤ 1 → boolAt m at n u ≡ decodeWord m 1 at n u
@@ -59,7 +58,7 @@ module _ (m : Message) where
   unfolding D.elements D.sequence
   bools-numbers index zero at n u low = refl
   bools-numbers index (suc count) at n u low =
-      rw (sym (one-bool at n u) ∙ bool-number at n u first) (then-same (decodeWord m 1 at n u) (λ n₁ u₁. bools-numbers (suc index) count (at + 1) n₁ u₁ rest))
+      rw (ap (λ (p : Decoder). p at n u) one-bool ∙ bool-number at n u first) (then-same (decodeWord m 1 at n u) (λ n₁ u₁. bools-numbers (suc index) count (at + 1) n₁ u₁ rest))
     where
       first : getD (m .bytes) at 0 ≤ 1
       first = rw (add-zero at) at (low 0 (omega arith))

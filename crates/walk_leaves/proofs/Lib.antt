@@ -1,9 +1,7 @@
 pub mod Steps
+pub mod Results
 pub mod InLine
 pub mod Objects
-pub mod Leading
-pub mod Runs
-pub mod Results
-pub mod Work
+pub mod Reading
 pub mod ByPlan
 pub mod Bools

@@ -3,6 +3,5 @@ pub mod Results
 pub mod InLine
 pub mod Filling
 pub mod Leading
-pub mod Runs
-pub mod Work
+pub mod Writing
 pub mod ByPlan

@@ -2,29 +2,28 @@
 -- Assumes nothing.
 use mathlib.Core.Bool.{Bool, true, false}
 use mathlib.Core.List.{List}
-use mathlib.Core.Path.{_≡_, refl, sym, ap, _∙_}
+use mathlib.Core.Path.{_≡_, refl, ap, _∙_}
 use Prim.Native.Nat.{ℕ, _+_, _-_, _≤_, _<_}
 use native.Mathlib.Omega.{arith}
-use lib.ListN.{length, drop, getD, set}
+use lib.ListN.{length, getD, set}
 use lib.Seq.{sets, length-sets}
 use Rattle.rules.specs.declared.Fault.{Fault}
 use Rattle.rules.specs.Bytes.{zeros}
 use Rattle.rules.specs.TypeTable.{TypeTable}
 use Rattle.rules.specs.Sizes.{layoutOf, sizeOf}
-use Rattle.rules.specs.Refusals.{accepted}
-use Rattle.rules.specs.Sound.{soundness}
-use Rattle.rules.specs.Writer as R
 use Rattle.nesting.specs.declared.Level.{Level}
 use Rattle.nesting.specs.declared.Step.{Step}
 use Rattle.nesting.specs.declared.Step.the-variants.{Fill, Into, Call, Out, Done}
 use Rattle.nesting.specs.Nesting.{hasParts, nextStep}
 use Rattle.layout.specs.Ready.{Ready}
-use Rattle.nesting.proofs.Items.{Item, itemsOf, fields-size}
-use Rattle.nesting.proofs.Left.{advanced, fieldsLeft}
-use Rattle.nesting.proofs.Starts.{startOf, start-size}
+use Rattle.nesting.proofs.Items.{Item}
+use Rattle.nesting.proofs.Left.{advanced}
+use Rattle.nesting.proofs.Starts.{startOf}
 use Rattle.nesting.proofs.Steps.{Known, Stepped, fuel}
-use Rattle.nesting.proofs.Going.{Going, Bounded, Opens}
+use Rattle.nesting.proofs.Going.{Going, Bounded}
+use Rattle.plans.proofs.Rows.{row-start, rows-open}
 use Rattle.nesting.proofs.Turns as T
+use Rattle.nesting.proofs.Work.{WorkLeft, item-asks, item-on, item-refused, work-end}
 use Rattle.write_leaves.specs.declared.cursor.Cursor.{Cursor}
 use Rattle.write_leaves.specs.declared.cursor.Wrote.{Wrote}
 use Rattle.write_leaves.specs.declared.cursor.Wrote.the-variants.{On, Refused}
@@ -32,23 +31,16 @@ use Rattle.write_leaves.specs.Putting.{Ask}
 use Rattle.write_walk.specs.Walking.{writeRow, ValuePut}
 use Rattle.write_leaves.proofs.Leading.{ask-stands, wrote-length}
 use Rattle.write_leaves.proofs.Filling.{fill-put}
-use Rattle.write_leaves.proofs.Work.{WorkLeft, item-asks, item-on, item-refused, work-into, work-end, work-start}
-use Rattle.write_walk.proofs.Begins.{begins}
+use Rattle.write_leaves.proofs.Writing.{writing}
+use Rattle.write_walk.proofs.Rows.{rows-written}
 
 module _ (t : TypeTable) (values : List ℕ) (base depth top at : ℕ) (out : List ℕ) (c : Cursor) (out′ : List ℕ) (d : Cursor) where
   -- What is left of the value of the row `top`, which began at the cursor `c`.
   abbrev pub PartsLeft : List Item → (place : ℕ) → Type 0
-  PartsLeft =
-      WorkLeft (layoutOf t) (writeRow t depth) values base (sizeOf t top) at
-      (writeRow t depth top (drop (c .index) values) (c .next) (c .handles)) out c out′ d
+  PartsLeft = WorkLeft (writing values base) (layoutOf t) (writeRow t depth) (sizeOf t top) at (writeRow t depth top) out c out′ d
 
   parts-bounded : Bounded t PartsLeft
-  parts-bounded is place w = omega (arith, w .asks .inside, w .asks .free)
-
-  parts-open : soundness t ≡ accepted tt → Opens t PartsLeft
-  parts-open sound row rest place parts used w =
-      let fields = fieldsLeft t (startOf row place) place in
-      work-into (itemsOf fields) w (begins t (R.levels t depth) row sound used parts place) (start-size t row sound used parts place ∙ sym (fields-size (layoutOf t) fields))
+  parts-bounded is place w = omega (arith, w .work .asks .inside, w .work .asks .free)
 
 -- The state of the loop.
 pub record Writing (none : Level) (t : TypeTable) (alignments values : List ℕ) (base depth top at : ℕ) (out : List ℕ) (c : Cursor)
@@ -60,9 +52,7 @@ pub writing-start : {t : TypeTable} {sizes alignments values : List ℕ} {base d
     → (none : Level) (out : List ℕ) (kept : List Level) → length kept ≡ 8 → hasParts (t .rows) top ≡ true → Ask values (sizeOf t top) at base c
     → Writing none t alignments values base depth top at out c out kept 0 (startOf top at) false at c
 writing-start {t} {values = values} {base} {depth} {top} {at} {c} ready none out kept h parts a =
-    let fields = fieldsLeft t (startOf top at) at in
-    let sized = start-size t top (ready .sound) (ready .in-use) parts at ∙ sym (fields-size (layoutOf t) fields) in
-    let work = work-start (layoutOf t) (writeRow t depth) values base at out c top (itemsOf fields) a (begins t (R.levels t depth) top (ready .sound) (ready .in-use) parts at) sized in
+    let work = row-start (rows-written t depth (ready .sound)) top (ready .in-use) parts a in
     record { going = T.going-start ready (PartsLeft t values base depth top at out c out c) none kept h parts work; lengths = refl }
 
 module _ {none : Level} {t : TypeTable} {sizes alignments values : List ℕ} {base depth top at : ℕ} {out : List ℕ} {c : Cursor} (ready : Ready t sizes alignments depth top)
@@ -87,7 +77,7 @@ module _ {none : Level} {t : TypeTable} {sizes alignments values : List ℕ} {ba
     fill-done {next} {out″} q stored =
         let f = T.turn-fill ready bounded (step q) (w .going) in
         let stops : place + (next - place) ≡ next = omega (arith, f .0) in
-        let left = item-on (f .2) (fill-put (next - place) (ask-stands (f .2 .asks)) stored base) in
+        let left = item-on (f .2) (fill-put (next - place) (ask-stands (f .2 .work .asks)) stored base) in
         let turn = T.turn-filled ready bounded (step q) (w .going) (PartsLeft t values base depth top at out c out″ d) (rw stops at left) in
         (record { going = turn .0; lengths = ap length stored ∙ length-sets out′ place (zeros (next - place)) ∙ w .lengths }, turn .1)
 
@@ -95,7 +85,7 @@ module _ {none : Level} {t : TypeTable} {sizes alignments values : List ℕ} {ba
         → Writing none t alignments values base depth top at out c out′ (set kept around level) (around + 1) (startOf part place) due place d
         × (fuel (t .rows) (startOf part place) due place (around + 1) < fuel (t .rows) level due place around) × (around < 8)
     into-done q =
-        let turn = T.turn-into ready bounded (step q) (w .going) (parts-open t values base depth top at out c out′ d (ready .sound)) in
+        let turn = T.turn-into ready bounded (step q) (w .going) (rows-open (rows-written t depth (ready .sound))) in
         (record { going = turn .0; lengths = w .lengths }, turn .1, turn .2)
 
     pub call-asks : {part : ℕ} → s ≡ Call part → Ready t sizes alignments depth part × Ask values (sizeOf t part) place base d × (part < top)

@@ -1,6 +1,6 @@
 pub mod ByKind
 pub mod Values
-pub mod Begins
+pub mod Rows
 pub mod Plans
 pub mod Composite
 pub mod OutOfLine

@@ -21,6 +21,7 @@ use Rattle.rules.specs.Envelope.{writeContentOfEightBytes}
 use Rattle.rules.specs.Writer as R
 use Rattle.ordinals.specs.declared.Ordinal.{Ordinal}
 use Rattle.ordinals.specs.Ordinals.{ordinalIs}
+use Rattle.nesting.proofs.Runs.{RunLeft, run-start, run-asks, run-on, run-refused, run-end}
 use Rattle.write_leaves.specs.declared.cursor.Cursor.{Cursor}
 use Rattle.write_leaves.specs.declared.cursor.Wrote.{Wrote}
 use Rattle.write_leaves.specs.declared.cursor.Wrote.the-variants.{On, Refused}
@@ -28,7 +29,7 @@ use Rattle.write_leaves.specs.Putting.{Put, Puts, tookOne, Ask}
 use Rattle.write_walk.specs.Walking.{writeEnvelope, EnvelopesPut, ContentPut}
 use Rattle.write_leaves.proofs.InLine.{put-in-line, put-cannot}
 use Rattle.write_records.proofs.UnknownContent.{put-later}
-use Rattle.write_leaves.proofs.Runs.{RunLeft, run-start, run-asks, run-on, run-refused, run-end}
+use Rattle.write_leaves.proofs.Writing.{writing}
 
 -- ---- one envelope, by its number
 
@@ -76,16 +77,11 @@ module _ (last : Bool) (content : Encoder) (values : List ℕ) (i next used : �
 -- The envelopes from the one after `i` on.
 abbrev pub EnvelopesLeft : (t : TypeTable) (values : List ℕ) (base depth row count : ℕ) (out out′ : List ℕ) (c d : Cursor) (i : ℕ) → Type 0
 EnvelopesLeft t values base depth row count out out′ c d i =
-    RunLeft values base 8 (writeEnvelope t depth row count) (count * 8) 0
-    (E.elements (writeEnvelope t depth row count) 1 count (drop (c .index) values) (c .next) (c .handles)) out out′ c d (i + 1) (count - i) (i * 8)
+    RunLeft (writing values base) 8 (writeEnvelope t depth row count) (count * 8) 0 (E.elements (writeEnvelope t depth row count) 1 count) out c out′ d (i + 1) (count - i) (i * 8)
 
 module _ (t : TypeTable) (values : List ℕ) (base depth row count : ℕ) (out : List ℕ) (c : Cursor) where
   pub envelopes-start : Ask values (count * 8) 0 base c → EnvelopesLeft t values base depth row count out out c c 0
-  envelopes-start a =
-      let s : 0 + 1 ≡ 1 = omega arith in
-      let r : count - 0 ≡ count = omega arith in
-      let p : 0 * 8 ≡ 0 = omega arith in
-      rw (s, r, p) (run-start 1 count 0 a)
+  envelopes-start a = let r : count - 0 ≡ count = omega arith in rw r (run-start 1 count 0 refl a)
 
   module _ {out′ : List ℕ} {d : Cursor} {i : ℕ} (r : EnvelopesLeft t values base depth row count out out′ c d i) where
     pub envelopes-end : count ≤ i → EnvelopesPut t values out out′ base depth c row count (On d)

@@ -26,6 +26,7 @@ use Rattle.layout.specs.Ready.{Ready}
 use Rattle.layout.proofs.Readiness.{row-few, row-in-use, row-size, size-small, ready-at}
 use Rattle.ordinals.proofs.Members.{members-rise, ordinal-content, ordinal-fits, vector-in-use, box-in-use, table-members, union-members, union-else}
 use Rattle.nesting.proofs.NoParts.{outside-left}
+use Rattle.nesting.proofs.Runs.{RunLeft, run-start, run-asks, run-next, run-stopped, run-end}
 use Rattle.nesting.proofs.Steps.{fuel}
 use Rattle.walk_leaves.proofs.cursor.passed_on.Reads as passed-on-reads
 use Rattle.nesting.proofs.has_parts.Reads as has-parts-reads
@@ -40,7 +41,8 @@ use Rattle.walk_records.proofs.Unions.{member-fits}
 use Rattle.walk.proofs.OutOfLine.{elements-few, vector-record, box-record, table-record, union-record, vector-closed, vector-refused, vector-asks, vector-done, box-absent, box-refused, box-asks, box-done, table-closed, table-refused, table-asks, table-done, union-none, union-bad, union-asks, union-done}
 use Rattle.walk.proofs.Numbers.{numbers-ask, numbers-done}
 use Rattle.walk.proofs.Plans.{planned-ask, planned-done, alone-ask, alone-done}
-use Rattle.walk_leaves.proofs.Runs.{RunLeft, run-asks, run-next, run-stopped, run-end}
+use Rattle.walk_leaves.specs.Doing.{message}
+use Rattle.walk_leaves.proofs.Reading.{reading}
 use Rattle.walk.proofs.TableEnvelopes.{EnvelopesLeft, envelopes-start, envelopes-end, content-asks, last-absent, one-absent, one-present, one-refused, one-lengths}
 use Rattle.walk.proofs.Values.{value-bool, value-number, value-handle, value-string}
 use Rattle.walk.proofs.NoParts.{value-empty, array-ask, array-done, number-ask, string-ask}
@@ -431,8 +433,8 @@ elements-calls t = (kind-at-reads.Asked, kind-at-reads.Learnt, a-at-reads.Asked,
 
 abbrev elements-Inv-loop : elements-lts.InvT-loop
 elements-Inv-loop rows members sizes alignments bytes held values₀ objects₀ depth row count at kind size d₀ place₀ left₀ values objects d place left =
-    RunLeft (length bytes) held (sizeOf (typeTable rows members) row) (λ k. walkRow (typeTable rows members) bytes held depth row) (count * sizeOf (typeTable rows members) row)
-    (D.elements (sizeOf (typeTable rows members) row) (λ k. walkRow (typeTable rows members) bytes held depth row) 0 count at (d₀ .next) (d₀ .handles)) values₀ values objects₀ objects d₀ d 0 left place
+    RunLeft (reading (message (typeTable rows members) bytes held)) (sizeOf (typeTable rows members) row) (λ k. walkRow (typeTable rows members) bytes held depth row) (count * sizeOf (typeTable rows members) row) at
+    (D.elements (sizeOf (typeTable rows members) row) (λ k. walkRow (typeTable rows members) bytes held depth row) 0 count) (values₀, objects₀) d₀ (values, objects) d 0 left place
     × (length values ≡ length values₀) × (length objects ≡ length objects₀)
 
 abbrev elements-μ-loop : elements-lts.MeasureT-loop
@@ -456,11 +458,14 @@ elements-planned-requires t c κs = planned-ask (c .before .before .before .befo
 elements-returns-2 : (t : ℕ) → elements-lts.Need-returns-2 (elements-calls t) (elements-at t) elements.Post elements-Inv-loop elements-μ-loop
 elements-returns-2 t c = planned-done (c .before .before .before .before .before .before .before .before .before .before .before .before .before .before .before .before .pre .1 .0) (c .before .before .before .before .before .before .plan-of .ensures) (c .before .before .before .before .if2 .taken) (c .before .before .before .before .before .before .before .number-at .ensures) _ _ _ _ _ _ _ _ _ (c .before .before .before .before .before .before .before .before .before .before .before .before .before .before .before .before .pre .1 .1) (c .before .before .planned .ensures)
 
+elements-loop-holds : (t : ℕ) → elements-lts.Need-loop-holds (elements-calls t) (elements-at t) elements.Post elements-Inv-loop elements-μ-loop
+elements-loop-holds t c = (run-start 0 _ _ refl (c .before .before .before .before .before .before .before .before .before .before .before .before .pre .1 .1), search needs, search needs)
+
 elements-value-requires : (t : ℕ) → elements-lts.Need-value-requires (elements-calls t) (elements-at t) elements.Post elements-Inv-loop elements-μ-loop
-elements-value-requires t c κs = (omega (arith, c .before .before .before .before .before .before .before .before .before .before .before .before .before .before .before .before .pre .0), (search needs, search (needs, run-asks)))
+elements-value-requires t c κs = (omega (arith, c .before .before .before .before .before .before .before .before .before .before .before .before .before .before .before .before .pre .0), (search needs, run-asks (c .before .before .before .loop .inv .0) (c .before .before .loop-test .taken)))
 
 elements-returns-3 : (t : ℕ) → elements-lts.Need-returns-3 (elements-calls t) (elements-at t) elements.Post elements-Inv-loop elements-μ-loop
-elements-returns-3 t c = search (needs, run-stopped, c .before .before .before .before .before .before .before .before .before .before .before .loop .inv .0, c .before .before .before .before .before .before .before .value .ensures)
+elements-returns-3 t c = run-stopped (c .before .before .before .before .before .before .before .before .before .before .before .loop .inv .0) (c .before .before .before .before .before .before .before .before .before .before .loop-test .taken) (c .before .before .before .before .before .before .before .value .ensures) (c .before .f .given .1)
 
 elements-loop-again : (t : ℕ) → elements-lts.Need-loop-again (elements-calls t) (elements-at t) elements.Post elements-Inv-loop elements-μ-loop
 elements-loop-again t c =
@@ -468,7 +473,7 @@ elements-loop-again t c =
     (run-next (c .before .before .before .before .before .before .before .before .before .before .before .loop .inv .0) (c .before .before .before .before .before .before .before .before .before .before .loop-test .taken) (c .before .before .before .before .before .before .before .value .ensures) (row-size r _ (r .in-use) (c .before .before .before .before .before .before .before .before .before .before .before .before .before .before .before .number-at .ensures)) (c .before .e .given .1), search needs, search needs)
 
 elements-returns-4 : (t : ℕ) → elements-lts.Need-returns-4 (elements-calls t) (elements-at t) elements.Post elements-Inv-loop elements-μ-loop
-elements-returns-4 t c = search (needs, run-end)
+elements-returns-4 t c = run-end (c .before .loop .inv .0) (c .loop-test .left)
 
 -- ---- envelopes: a table's envelopes
 
@@ -896,7 +901,7 @@ pub +composite+content+elements+envelopes+out-of-line+value-spec : {M : Type 1} 
     elements-μ-loop
     (λ c κs. search needs) (λ c κs. search needs) (elements-numbers-requires t) (λ c. search needs) (elements-returns t)
     (λ c κs. search needs) (λ c. search needs) (λ c κs. search needs) (elements-planned-requires t) (λ c. search needs)
-    (elements-returns-2 t) (λ c. search needs) (elements-value-requires t) (λ c. search needs) (λ c. search needs)
+    (elements-returns-2 t) (elements-loop-holds t) (elements-value-requires t) (λ c. search needs) (λ c. search needs)
     (λ c. search needs) (λ c. search needs) (elements-returns-3 t) (λ c. search needs) (λ c. search needs)
     (λ c. search needs) (elements-loop-again t) (λ c. search needs) (λ c. search needs) (elements-returns-4 t))
     (λ t. envelopes-lts.spec (envelopes-calls t)

@@ -7,7 +7,8 @@ use borrow.Author.Needs.{needs}
 use lib.ListN.{length}
 use Rattle.plans.specs.Plans.{partsFrom}
 use Rattle.walk_leaves.proofs.Bools.{bools-inside, bools-ask, bools-given}
-use Rattle.walk_leaves.proofs.ByPlan.{ValuesLeft, values-start, value-asks, values-end, value-refused, value-on}
+use Rattle.nesting.proofs.Runs.{run-start, run-asks, run-next, run-stopped, run-end}
+use Rattle.walk_leaves.proofs.ByPlan.{ValuesLeft}
 use Rattle.walk_leaves.proofs.planned.planned.Statement.{statement}
 use Rattle.walk_leaves.proofs.planned.planned.Tie as tie
 
@@ -33,24 +34,24 @@ returns : tie.Need-returns Inv-loop μ-loop
 returns c = bools-given (c .before .before .before .before .before .before .before .before .is-bool .ensures (c .before .before .before .before .before .before .before .if1 .taken)) (c .before .before .before .before .before .before .before .before .before .before .before .pre .2) _ _ _ (c .before .before .before .before .before .byte-bits .ensures) (c .before .before .before .before .if2 .taken) (c .before .before .numbers .ensures)
 
 loop-holds : tie.Need-loop-holds Inv-loop μ-loop
-loop-holds c = (values-start _ _ _ _ _ _ _, refl)
+loop-holds c = (run-start 0 _ _ (c .before .before .before .before .before .before .pre .2) (c .before .before .before .before .before .before .pre .3), refl)
 
 one-requires : tie.Need-one-requires Inv-loop μ-loop
-one-requires c κs = (c .before .before .before .before .before .before .before .before .before .before .before .pre .0, c .before .before .before .before .before .before .before .before .before .before .before .pre .1, rw (c .before .before .before .before .before .before .before .before .before .before .before .pre .2) (value-asks (c .before .before .before .before .loop .inv .0) (c .before .before .before .before .before .before .before .before .before .before .before .pre .3) (c .before .before .before .loop-test .taken)))
+one-requires c κs = (c .before .before .before .before .before .before .before .before .before .before .before .pre .0, c .before .before .before .before .before .before .before .before .before .before .before .pre .1, run-asks (c .before .before .before .before .loop .inv .0) (c .before .before .before .loop-test .taken))
 
 returns-2 : tie.Need-returns-2 Inv-loop μ-loop
-returns-2 c = value-refused (c .before .before .before .before .before .before .before .before .before .before .loop .inv .0) (c .before .before .before .before .before .before .before .before .before .loop-test .taken) (c .before .before .before .before .before .before .before .before .before .before .before .before .before .before .before .before .before .pre .2) (c .before .before .before .before .before .one .ensures) (c .before .f .given .1)
+returns-2 c = run-stopped (c .before .before .before .before .before .before .before .before .before .before .loop .inv .0) (c .before .before .before .before .before .before .before .before .before .loop-test .taken) (c .before .before .before .before .before .one .ensures) (c .before .f .given .1)
 
 add-place : tie.Need-add-place Inv-loop μ-loop
 add-place c =
-    let a = value-asks (c .before .before .before .before .before .before .before .before .before .before .loop .inv .0) (c .before .before .before .before .before .before .before .before .before .before .before .before .before .before .before .before .before .pre .3) (c .before .before .before .before .before .before .before .before .before .loop-test .taken) in
+    let a = run-asks (c .before .before .before .before .before .before .before .before .before .before .loop .inv .0) (c .before .before .before .before .before .before .before .before .before .loop-test .taken) in
     omega (arith, a .inside, a .short)
 
 loop-again : tie.Need-loop-again Inv-loop μ-loop
-loop-again c = (value-on (c .before .before .before .before .before .before .before .before .before .before .loop .inv .0) (c .before .before .before .before .before .before .before .before .before .loop-test .taken) (c .before .before .before .before .before .before .before .before .before .before .before .before .before .before .before .before .before .pre .2) (c .before .before .before .before .before .one .ensures) (c .before .e .given .1), search needs)
+loop-again c = (run-next (c .before .before .before .before .before .before .before .before .before .before .loop .inv .0) (c .before .before .before .before .before .before .before .before .before .loop-test .taken) (c .before .before .before .before .before .one .ensures) (c .before .before .before .before .before .before .before .before .before .before .before .before .before .before .before .before .before .pre .2) (c .before .e .given .1), search needs)
 
 returns-3 : tie.Need-returns-3 Inv-loop μ-loop
-returns-3 c = values-end (c .before .loop .inv .0) (c .loop-test .left)
+returns-3 c = run-end (c .before .loop .inv .0) (c .loop-test .left)
 
 pub planned-spec : {M : Type 1} → statement M
 planned-spec =

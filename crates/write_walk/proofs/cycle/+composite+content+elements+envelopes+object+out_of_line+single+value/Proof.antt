@@ -20,7 +20,8 @@ use Rattle.layout.proofs.Readiness.{row-few, row-in-use, row-size, size-small, 
 use Rattle.nesting.proofs.Steps.{fuel}
 use Rattle.write_walk.specs.Walking.{writeRow, writeElements}
 use Rattle.write_leaves.proofs.Leading.{ask-stands, wrote-length}
-use Rattle.write_leaves.proofs.Runs.{RunLeft, run-start, run-asks, run-next, run-stopped, run-end}
+use Rattle.nesting.proofs.Runs.{RunLeft, run-start, run-asks, run-next, run-stopped, run-end}
+use Rattle.write_leaves.proofs.Writing.{writing}
 use Rattle.write_walk.proofs.Values.{value-bool, value-number, value-handle, value-string, value-empty, string-ask, number-ask, numbers-ask, numbers-done, array-ask, array-done}
 use Rattle.write_walk.proofs.Plans.{planned-ask, planned-done, alone-ask, alone-done}
 use Rattle.write_walk.proofs.Composite.{Writing, writing-start, level-known, fill-within, fill-done, into-done, call-asks, call-done, call-refused, out-done, all-put}
@@ -519,8 +520,8 @@ elements-calls t = (kind-at-reads.Asked, kind-at-reads.Learnt, a-at-reads.Asked,
 
 abbrev elements-Inv-loop : elements-lts.InvT-loop
 elements-Inv-loop rows members sizes alignments values out₀ base depth row count at kind size d₀ place₀ left₀ out d place left =
-    RunLeft values base (sizeOf (typeTable rows members) row) (λ k. writeRow (typeTable rows members) depth row) (count * sizeOf (typeTable rows members) row) at
-    (E.elements (λ k. writeRow (typeTable rows members) depth row) 0 count (drop (d₀ .index) values) (d₀ .next) (d₀ .handles)) out₀ out d₀ d 0 left place
+    RunLeft (writing values base) (sizeOf (typeTable rows members) row) (λ k. writeRow (typeTable rows members) depth row) (count * sizeOf (typeTable rows members) row) at
+    (E.elements (λ k. writeRow (typeTable rows members) depth row) 0 count) out₀ d₀ out d 0 left place
     × (length out ≡ length out₀)
 
 abbrev elements-μ-loop : elements-lts.MeasureT-loop
@@ -545,13 +546,13 @@ elements-returns-2 : (t : ℕ) → elements-lts.Need-returns-2 (elements-calls t
 elements-returns-2 t c = planned-done (c .before .before .before .before .before .before .before .before .before .before .before .before .before .before .before .pre .1 .0) (c .before .before .before .before .before .before .plan-of .ensures) (c .before .before .before .before .if2 .taken) (c .before .before .before .before .before .before .before .number-at .ensures) _ _ _ _ _ _ _ _ (c .before .before .before .before .before .before .before .before .before .before .before .before .before .before .before .pre .1 .1) (c .before .before .planned .ensures)
 
 elements-loop-holds : (t : ℕ) → elements-lts.Need-loop-holds (elements-calls t) (elements-at t) elements.Post elements-Inv-loop elements-μ-loop
-elements-loop-holds t c = (search (needs, run-start), search needs)
+elements-loop-holds t c = (run-start 0 _ _ refl (c .before .before .before .before .before .before .before .before .before .before .before .pre .1 .1), search needs)
 
 elements-value-requires : (t : ℕ) → elements-lts.Need-value-requires (elements-calls t) (elements-at t) elements.Post elements-Inv-loop elements-μ-loop
-elements-value-requires t c κs = (omega (arith, c .before .before .before .before .before .before .before .before .before .before .before .before .before .before .pre .0), (search needs, search (needs, run-asks)))
+elements-value-requires t c κs = (omega (arith, c .before .before .before .before .before .before .before .before .before .before .before .before .before .before .pre .0), (search needs, run-asks (c .before .before .loop .inv .0) (c .before .loop-test .taken)))
 
 elements-returns-3 : (t : ℕ) → elements-lts.Need-returns-3 (elements-calls t) (elements-at t) elements.Post elements-Inv-loop elements-μ-loop
-elements-returns-3 t c = search (needs, run-stopped)
+elements-returns-3 t c = run-stopped (c .before .before .before .before .before .before .before .before .loop .inv .0) (c .before .before .before .before .before .before .before .loop-test .taken) (c .before .before .before .before .before .value .ensures) (c .before .f .given .1)
 
 elements-loop-again : (t : ℕ) → elements-lts.Need-loop-again (elements-calls t) (elements-at t) elements.Post elements-Inv-loop elements-μ-loop
 elements-loop-again t c =
@@ -559,7 +560,7 @@ elements-loop-again t c =
     (run-next (c .before .before .before .before .before .before .before .before .loop .inv .0) (c .before .before .before .before .before .before .before .loop-test .taken) (c .before .before .before .before .before .value .ensures) (row-size r _ (r .in-use) (c .before .before .before .before .before .before .before .before .before .before .before .before .number-at .ensures)) (c .before .e .given .1), search needs)
 
 elements-returns-4 : (t : ℕ) → elements-lts.Need-returns-4 (elements-calls t) (elements-at t) elements.Post elements-Inv-loop elements-μ-loop
-elements-returns-4 t c = search (needs, run-end)
+elements-returns-4 t c = run-end (c .before .loop .inv .0) (c .loop-test .left)
 
 -- ---- envelopes: a table's envelopes
 
