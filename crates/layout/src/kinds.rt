@@ -6,18 +6,16 @@ use crate::table::kind_at;
 use crate::table::ordinal_at;
 use crate::table::row_of;
 ghost use mathlib.Core.Bool.{_&&_};
-ghost use mathlib.Core.List.{List};
 ghost use mathlib.Core.Path.{_≡_};
-ghost use Prim.Native.Nat.{ℕ, _≤_};
+ghost use Prim.Native.Nat.{_≤_};
 ghost use lib.ListN.{length};
-ghost use Rattle.rules.specs.TypeTable.{typeTable, typeOf};
+ghost use Rattle.rules.specs.TypeTable.{TypeTable, typeTable, typeOf};
 ghost use Rattle.rules.specs.Sound.{membersExist, structMembers, risingMembers, rowFits};
 
 // A struct's members exist, "struct ordinals are 1, 2, 3 and on", and its members' rows have smaller numbers than its own.
 fn struct_members(members: &[u32], row: u32, first: u32, count: u32) -> bool
     requires { ⌜ length (now members) ≤ 2048 ⌝ }
-    ensures { λ r. ⌜ ((rows : List ℕ) →
-        let t = typeTable rows (now (members .entry)) in
+    ensures { λ r. ⌜ ((t : TypeTable) → t .members ≡ now (members .entry) →
         r ≡ (membersExist t first count && structMembers t row first count 1)) ⌝ }
 {
     if members.len() / 2 < (first as usize) + (count as usize) {

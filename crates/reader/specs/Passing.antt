@@ -8,7 +8,7 @@ use lib.ListN.{length}
 use lib.Seq.{sets}
 use Rattle.rules.specs.declared.Place.the-variants.{Byte, Amount}
 use Rattle.rules.specs.Refusals.{fault, tooManyHandles, bytesLeft, handlesLeft, Answer, accepted, require, andThen}
-use Rattle.rules.specs.TypeTable.{TypeTable, typeTable}
+use Rattle.rules.specs.TypeTable.{TypeTable}
 use Rattle.rules.specs.Sound.{rootAllowed, requireRow}
 use Rattle.rules.specs.Trace.{objectList}
 use Rattle.rules.specs.Decode.{Message, traceOf}
@@ -27,11 +27,11 @@ use Rattle.reader.specs.Answers.{verdictOf, readingOf, lengthsOf}
 abbrev pub listsOf : Answer A.Reading → Answer Lists
 listsOf answer = andThen answer (λ reading. accepted (record { values = reading .values; objects = objectList (reading .trace) }))
 
--- 2, 3 and 4, after the verdict on the type table.
+-- 2, 3 and 4, after the verdict on the type table: under every one that has these rows.
 abbrev pub BeforeWalk : (sound : Answer (Unit {0})) (rows : List ℕ) (root length handles : ℕ) → Verdict → Type 0
 BeforeWalk sound rows root length handles r =
-    (members : List ℕ) → verdictOf r
-    ≡ andThen sound (λ s. requireRow (rootAllowed (typeTable rows members) root) root
+    (t : TypeTable) → t .rows ≡ rows → verdictOf r
+    ≡ andThen sound (λ s. requireRow (rootAllowed t root) root
     (requireLength length (require (leb handles 64) (fault tooManyHandles (Amount 0)) (accepted tt))))
 
 -- 20, 21: what is answered where a walk ends.

@@ -3,7 +3,8 @@ ghost use mathlib.Core.Path.{_≡_};
 ghost use lib.ListN.{length};
 ghost use Rattle.rules.specs.TypeTable.{typeTable};
 ghost use Rattle.layout.specs.Answers as Layout;
-ghost use Rattle.layout.specs.Answers.{keptSizes, keptAlignments};
+ghost use Rattle.layout.specs.Answers.{keptSizes, keptAlignments, givenIfSound};
+ghost use Rattle.layout.specs.Kept.{Zeroed};
 ghost use Rattle.walk_leaves.specs.Doing.{message};
 ghost use Rattle.reader.specs.Answers.{readingOf};
 ghost use Rattle.reader.specs.Passing.{BeforeWalk, Walkable, PrimaryDid, afterWalk, Passed, judgedLengths};
@@ -11,7 +12,7 @@ use crate::Lengths;
 use crate::Reading;
 use crate::Verdict;
 use layout::Soundness;
-use layout::prepare;
+use layout::climb::climb;
 use layout::root_allowed;
 use rules::Fault;
 use rules::Place;
@@ -141,7 +142,8 @@ pub fn pass(
     }
 }
 
-// Every test of the checker, by a walk that stores nothing. The arrays lent get the sizes and the alignments that it goes by.
+// Every test of the checker, by a walk that stores nothing. The arrays lent, zero before, get the sizes and the alignments that
+// it goes by.
 pub fn judge(
     rows: &[u32],
     members: &[u32],
@@ -151,11 +153,16 @@ pub fn judge(
     bytes: &[u8],
     handles: u64,
 ) -> Reading
+    requires { ⌜ Zeroed (now sizes) × Zeroed (now alignments) ⌝ }
     ensures answer { λ r. ⌜ readingOf r ≡ judgedLengths (message (typeTable (now (rows .entry)) (now (members .entry))) (now (bytes .entry)) handles) root ⌝ }
-    ensures sizes { λ _. ⌜ now (sizes .exit) ≡ keptSizes (typeTable (now (rows .entry)) (now (members .entry))) ⌝ }
-    ensures alignments { λ _. ⌜ now (alignments .exit) ≡ keptAlignments (typeTable (now (rows .entry)) (now (members .entry))) ⌝ }
+    ensures sizes { λ _.
+        let t = typeTable (now (rows .entry)) (now (members .entry)) in
+        ⌜ now (sizes .exit) ≡ givenIfSound t (keptSizes t) (now (sizes .entry)) ⌝ }
+    ensures alignments { λ _.
+        let t = typeTable (now (rows .entry)) (now (members .entry)) in
+        ⌜ now (alignments .exit) ≡ givenIfSound t (keptAlignments t) (now (alignments .entry)) ⌝ }
 {
-    let verdict = prepare(rows, members, sizes, alignments);
+    let verdict = climb(rows, members, sizes, alignments);
     if let Verdict::Refused(f) = before(verdict, rows, root, bytes.len(), handles) {
         return Reading::Refused(f);
     }

@@ -18,7 +18,8 @@ use Rattle.rules.proofs.Rooms.{room-short, room-enough, stored-list}
 use Rattle.layout.specs.declared.Soundness.{Soundness}
 use Rattle.layout.specs.declared.Soundness.the-variants as Table
 use Rattle.layout.specs.Answers as Layout
-use Rattle.layout.specs.Answers.{RootIs, keptSizes, keptAlignments}
+use Rattle.layout.specs.Answers.{RootIs, keptSizes, keptAlignments, givenIfSound}
+use Rattle.layout.proofs.Keeping.{given-sound}
 use Rattle.layout.proofs.Roots.{root-in-use}
 use Rattle.layout.specs.Ready.{Ready}
 use Rattle.writer.specs.declared.Sizes.{Sizes}
@@ -45,24 +46,27 @@ module _ (rows members values : List ℕ) (root : ℕ) (verdict : Soundness) (ju
 
     pub root-refused : allowed ≡ false → Measures (typeTable rows members) values root (refused (fault rootNotAllowed (Row root)))
     unfolding written
-    root-refused q = rw (sound, ← read members, q)
+    root-refused q = rw (sound, ← read (typeTable rows members) refl, q)
 
     module _ (q : allowed ≡ true) where
-      pub root-ready : {sizes alignments : List ℕ} → sizes ≡ keptSizes (typeTable rows members) → alignments ≡ keptAlignments (typeTable rows members)
-          → Ready (typeTable rows members) sizes alignments 32 root
-      root-ready s a =
+      pub root-ready : (sizes alignments : List ℕ) {sizes′ alignments′ : List ℕ}
+          → sizes′ ≡ givenIfSound (typeTable rows members) (keptSizes (typeTable rows members)) sizes
+          → alignments′ ≡ givenIfSound (typeTable rows members) (keptAlignments (typeTable rows members)) alignments
+          → Ready (typeTable rows members) sizes′ alignments′ 32 root
+      root-ready sizes alignments s a =
+          let t = typeTable rows members in
           record {
             sound = sound;
             edition = refl;
-            sizes-kept = s;
-            alignments-kept = a;
+            sizes-kept = given-sound t (keptSizes t) sizes sound s;
+            alignments-kept = given-sound t (keptAlignments t) alignments sound a;
             depth-left = omega arith;
-            in-use = root-in-use (typeTable rows members) root (sym (read members) ∙ q);
+            in-use = root-in-use t root (sym (read t refl) ∙ q);
           }
 
       pub measured : {out out′ : List ℕ} {r : Written} → Passed (typeTable rows members) values root out out′ r → Measures (typeTable rows members) values root (writtenOf r)
       unfolding written
-      measured p = p .answers ∙ rw (sound, ← read members, q)
+      measured p = p .answers ∙ rw (sound, ← read (typeTable rows members) refl, q)
 
 -- ---- a value list that has a message
 
@@ -122,14 +126,15 @@ module _ (t : TypeTable) (values : List ℕ) (root : ℕ) (a : Written) (j : Mea
     write-of room = rw (as-held .held)
 
     -- The value list may be walked again.
-    pub again-ready : {sizes alignments : List ℕ} → t .edition ≡ eightByteEnvelopes → sizes ≡ keptSizes t → alignments ≡ keptAlignments t → Ready t sizes alignments 32 root
-    again-ready edition s a =
+    pub again-ready : (sizes alignments : List ℕ) {sizes′ alignments′ : List ℕ} → t .edition ≡ eightByteEnvelopes → sizes′ ≡ givenIfSound t (keptSizes t) sizes
+        → alignments′ ≡ givenIfSound t (keptAlignments t) alignments → Ready t sizes′ alignments′ 32 root
+    again-ready sizes alignments edition s a =
         let p = held-closed t root values (as-held .held) in
         record {
           sound = p .0;
           edition = edition;
-          sizes-kept = s;
-          alignments-kept = a;
+          sizes-kept = given-sound t (keptSizes t) sizes (p .0) s;
+          alignments-kept = given-sound t (keptAlignments t) alignments (p .0) a;
           depth-left = omega arith;
           in-use = root-in-use t root (p .1);
         }

@@ -2,14 +2,15 @@
 ghost use mathlib.Core.Path.{_≡_};
 ghost use Rattle.rules.specs.TypeTable.{typeTable};
 ghost use Rattle.rules.specs.Answers.{written};
-ghost use Rattle.layout.specs.Answers.{keptSizes, keptAlignments};
+ghost use Rattle.layout.specs.Answers.{keptSizes, keptAlignments, givenIfSound};
+ghost use Rattle.layout.specs.Kept.{Zeroed};
 ghost use Rattle.layout.specs.Ready.{Ready};
 ghost use Rattle.writer.specs.Answers.{writtenOf, sizesOf};
 ghost use Rattle.writer.specs.Passing.{PrimaryPut, afterValue, Passed};
 use crate::Sizes;
 use crate::Written;
 use layout::Soundness;
-use layout::prepare;
+use layout::climb::climb;
 use layout::root_allowed;
 use rules::Fault;
 use rules::Place;
@@ -89,7 +90,8 @@ pub fn pass(
     }
 }
 
-// Every test but that of the room, by a pass that stores nothing. The arrays lent get the sizes and the alignments that it goes by.
+// Every test but that of the room, by a pass that stores nothing. The arrays lent, zero before, get the sizes and the
+// alignments that it goes by.
 pub fn measure(
     rows: &[u32],
     members: &[u32],
@@ -98,11 +100,16 @@ pub fn measure(
     root: u32,
     values: &[u64],
 ) -> Written
+    requires { ⌜ Zeroed (now sizes) × Zeroed (now alignments) ⌝ }
     ensures answer { λ r. ⌜ writtenOf r ≡ sizesOf (written (typeTable (now (rows .entry)) (now (members .entry))) root (now (values .entry))) ⌝ }
-    ensures sizes { λ _. ⌜ now (sizes .exit) ≡ keptSizes (typeTable (now (rows .entry)) (now (members .entry))) ⌝ }
-    ensures alignments { λ _. ⌜ now (alignments .exit) ≡ keptAlignments (typeTable (now (rows .entry)) (now (members .entry))) ⌝ }
+    ensures sizes { λ _.
+        let t = typeTable (now (rows .entry)) (now (members .entry)) in
+        ⌜ now (sizes .exit) ≡ givenIfSound t (keptSizes t) (now (sizes .entry)) ⌝ }
+    ensures alignments { λ _.
+        let t = typeTable (now (rows .entry)) (now (members .entry)) in
+        ⌜ now (alignments .exit) ≡ givenIfSound t (keptAlignments t) (now (alignments .entry)) ⌝ }
 {
-    let verdict = prepare(rows, members, sizes, alignments);
+    let verdict = climb(rows, members, sizes, alignments);
     if let Soundness::Refused(f) = verdict {
         return Written::Refused(f);
     }

@@ -71,7 +71,7 @@ struct-arm c =
     let s = c .before .before .before .before .before .before .before .before in
     let t = typeTable (s .args .rows .now) (s .args .members .now) in
     let row = s .args .row in
-    rw (c .struct-members .ensures (s .args .rows .now))
+    rw (c .struct-members .ensures t refl)
     (line (c .before .before) 7 (c .before .match .keys7) (λ a b d. eqb d 0 && (membersExist t a b && structMembers t row a b 1))
     (sym (struct-line t row (aAt t row) (bAt t row))))
 

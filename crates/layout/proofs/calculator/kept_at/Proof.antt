@@ -1,8 +1,8 @@
--- `layout::kept::kept_at` meets its contract.
+-- `layout::calculator::kept_at` meets its contract.
 -- Assumes nothing.
 use borrow.Author.Needs.{needs}
-use Rattle.layout.proofs.kept.kept_at.Statement.{statement}
-use Rattle.layout.proofs.kept.kept_at.Tie as tie
+use Rattle.layout.proofs.calculator.kept_at.Statement.{statement}
+use Rattle.layout.proofs.calculator.kept_at.Tie as tie
 
 pub kept-at-spec : {M : Type 1} → statement M
 kept-at-spec =
