@@ -15,7 +15,8 @@ use Rattle.rules.specs.Sizes.{largestAlignment, fieldsFrom, fieldsOf, fieldsSiz
 use Rattle.rules.specs.Sound.{structMembers, rowFits, rowSound}
 use Rattle.layout.specs.Running.{Alignment, one, two, four, eight}
 use Rattle.layout.specs.Kept.{SoundBelow}
-use Rattle.layout.proofs.Rows.{both, sound-fits, sound-size, layout-below, layout-outside, layout-step, array-fits, struct-fits, member-fits}
+use Rattle.rules.proofs.Tests.{both}
+use Rattle.layout.proofs.Rows.{sound-fits, sound-size, layout-below, layout-outside, layout-step, array-fits, struct-fits, member-fits}
 
 -- ---- alignments
 

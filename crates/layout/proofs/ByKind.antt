@@ -9,7 +9,8 @@ use Rattle.rules.specs.Refusals.{accepted}
 use Rattle.rules.specs.TypeTable.{TypeTable, eightByteEnvelopes, envelopeSize, rowCount, kindAt, aAt, bAt, cAt, typeAs, typeOf}
 use Rattle.rules.specs.Sizes.{layoutAs, layoutBelow, sizeOf}
 use Rattle.rules.specs.Sound.{soundness, rowFits}
-use Rattle.layout.proofs.Rows.{layout-step, layout-below, both, sound-rows, sound-fits, array-fits}
+use Rattle.rules.proofs.Tests.{both}
+use Rattle.layout.proofs.Rows.{layout-step, layout-below, sound-rows, sound-fits, array-fits}
 use Rattle.layout.specs.Ready.{widthAllowed}
 
 -- ---- sizes by kind

@@ -11,7 +11,7 @@ use Rattle.rules.specs.Refusals.{if_then_else_}
 use Rattle.rules.specs.TypeTable.{TypeTable, rowCount, kindAt, aAt, bAt, cAt, bool, number, handle, array, vector, string, box, none, typeAs, typeOf}
 use Rattle.rules.specs.Sound.{rootKind, rootAllowed}
 use Rattle.layout.specs.Answers.{RootIs}
-use Rattle.layout.proofs.Rows.{both}
+use Rattle.rules.proofs.Tests.{both}
 
 -- Of the other kinds none is a root.
 other-kinds : (k₁ k₂ k₃ k₄ k₅ k₆ k₈ : Bool) (a b : ℕ) (o : Bool)

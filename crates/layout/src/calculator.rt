@@ -4,10 +4,6 @@ use crate::sizes::array_layout;
 use crate::sizes::close;
 use crate::sizes::fixed_layout;
 use crate::sizes::place;
-use crate::table::a_at;
-use crate::table::b_at;
-use crate::table::kind_at;
-use crate::table::row_of;
 use rules::Layout;
 ghost use mathlib.Core.Path.{_≡_};
 ghost use lib.ListN.{getD};
@@ -55,12 +51,12 @@ pub(crate) fn row_layout(
     requires { ⌜ Layable (typeTable (now rows) (now members)) kept row (now sizes) (now alignments) ⌝ }
     ensures { λ r. ⌜ r ≡ layoutOf (typeTable (now (rows .entry)) (now (members .entry))) row ⌝ }
 {
-    let kind = kind_at(rows, row);
-    let a = a_at(rows, row);
+    let kind = table::kind_at(rows, row as usize);
+    let a = table::a_at(rows, row as usize);
     match kind {
         4 => array_layout(
             inner_layout(rows, members, sizes, alignments, kept, a),
-            b_at(rows, row),
+            table::b_at(rows, row as usize),
         ),
         7 => struct_layout(rows, members, sizes, alignments, kept, row),
         _ => fixed_layout(kind, a),
@@ -79,8 +75,8 @@ fn struct_layout(
     requires { ⌜ kindAt (typeTable (now rows) (now members)) row ≡ 7 ⌝ }
     ensures { λ r. ⌜ r ≡ layoutOf (typeTable (now (rows .entry)) (now (members .entry))) row ⌝ }
 {
-    let mut next = a_at(rows, row);
-    let mut left = b_at(rows, row);
+    let mut next = table::a_at(rows, row as usize);
+    let mut left = table::b_at(rows, row as usize);
     if left == 0 {
         return Layout {
             size: 1,
@@ -92,7 +88,7 @@ fn struct_layout(
         alignment: 1,
     };
     while 0 < left {
-        let inner = row_of(members, next);
+        let inner = table::row_of(members, next as usize);
         so_far = place(
             so_far,
             inner_layout(rows, members, sizes, alignments, kept, inner),

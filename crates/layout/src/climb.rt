@@ -3,7 +3,7 @@
 use crate::Soundness;
 use crate::calculator::row_layout;
 use crate::kinds::row_fits;
-use crate::table::lists_whole;
+use crate::lists::lists_whole;
 use rules::Fault;
 use rules::Layout;
 use rules::Place;

@@ -2,15 +2,14 @@
 mod calculator;
 pub mod climb;
 mod kinds;
+mod lists;
 mod sizes;
-mod table;
 
 use calculator::kept_at;
 use climb::climb;
 use rules::Fault;
 use rules::Layout;
 use rules::Place;
-use table::kind_at;
 ghost use mathlib.Core.Path.{_≡_};
 ghost use Rattle.rules.specs.TypeTable.{typeTable};
 ghost use Rattle.rules.specs.Sound.{soundness};
@@ -80,6 +79,6 @@ pub fn layout_of(rows: &[u32], members: &[u32], row: u32) -> LayoutAnswer
 pub fn root_allowed(rows: &[u32], root: u32) -> bool
     ensures { λ r. ⌜ RootIs (now (rows .entry)) root r ⌝ }
 {
-    let kind = kind_at(rows, root);
+    let kind = table::kind_at(rows, root as usize);
     ((root as usize) < rows.len() / 4) & ((kind == 7) | (kind == 9) | (kind == 10))
 }

@@ -13,7 +13,7 @@ use lib.ListN.{getD}
 use Rattle.rules.specs.Bytes.{roundUp}
 use Rattle.rules.specs.TypeTable.{kindIn, aIn, bIn, rowIn}
 use Rattle.layout.proofs.Structs.{round-most}
-use Rattle.layout.proofs.Rows.{both}
+use Rattle.rules.proofs.Tests.{both}
 use Rattle.nesting.specs.declared.Level.{Level}
 use Rattle.nesting.specs.declared.Step.the-variants.{Fill, Into, Call, Out, Done}
 use Rattle.nesting.specs.Nesting.{nextOffset, hasParts, nextPart, nextPlace, possible, nextStep}

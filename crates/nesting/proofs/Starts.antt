@@ -14,7 +14,8 @@ use Rattle.rules.specs.Refusals.{accepted}
 use Rattle.rules.specs.TypeTable.{TypeTable, rowCount, kindAt, aAt, bAt, rowOf, memberRows, struct}
 use Rattle.rules.specs.Sizes.{Field, layoutOf, layoutBelow, layoutAs, sizeOf, largestAlignment, fieldsFrom, fieldsOf, fieldsSize, structSize}
 use Rattle.rules.specs.Sound.{soundness, structMembers}
-use Rattle.layout.proofs.Rows.{both, layout-step, layout-below, member-fits, struct-fits}
+use Rattle.rules.proofs.Tests.{both}
+use Rattle.layout.proofs.Rows.{layout-step, layout-below, member-fits, struct-fits}
 use Rattle.nesting.specs.declared.Level.{Level}
 use Rattle.nesting.specs.Nesting.{hasParts}
 use Rattle.layout.proofs.Below.{AllBelow, none, more, FieldsBelow, largest-same, fields-same, fields-below}

@@ -10,7 +10,8 @@ use lib.Dec.{ltb, leb, eqb}
 use Rattle.rules.specs.Refusals.{if_then_else_}
 use Rattle.rules.specs.TypeTable.{TypeTable, rowCount, memberCount, kindAt, aAt, bAt, cAt, ordinalAt, rowOf, known, contentOf}
 use Rattle.rules.specs.Sound.{risingMembers, membersExist, rowFits}
-use Rattle.layout.proofs.Rows.{both, sound-row, OtherKind, other-kind}
+use Rattle.rules.proofs.Tests.{both}
+use Rattle.layout.proofs.Rows.{sound-row, OtherKind, other-kind}
 use Rattle.ordinals.specs.declared.Ordinal.{Ordinal}
 use Rattle.ordinals.specs.declared.Ordinal.the-variants.{Known, Unknown}
 use Rattle.ordinals.specs.Ordinals.{ordinalIs, halved, Rising, OrdinalFits}

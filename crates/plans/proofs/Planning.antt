@@ -12,7 +12,7 @@ use lib.Seq.{set-at}
 use Rattle.rules.specs.Refusals.{if_then_else_}
 use Rattle.rules.specs.Bytes.{zeros}
 use Rattle.rules.specs.Sizes.{Field, field}
-use Rattle.layout.proofs.Rows.{both}
+use Rattle.rules.proofs.Tests.{both}
 use Rattle.plans.specs.declared.Plan.{Plan}
 use Rattle.nesting.specs.Nesting.{nextPart, nextPlace}
 use Rattle.plans.specs.Plans.{flatWidth, widthSize, allFlat, after, flatFrom, flatMembers, planOf, widthIn, fillIn, column, planAs}

@@ -16,7 +16,7 @@ use Rattle.rules.specs.TypeTable.{TypeTable, rowCount, kindAt, aAt, bAt, member
 use Rattle.rules.specs.Sizes.{Field, field, layoutOf, sizeOf, fieldsOf, fieldsSize}
 use Rattle.rules.specs.Sound.{soundness}
 use Rattle.layout.specs.Answers.{keptAlignments}
-use Rattle.layout.proofs.Rows.{both}
+use Rattle.rules.proofs.Tests.{both}
 use Rattle.plans.specs.declared.Plan.{Plan}
 use Rattle.nesting.specs.Nesting.{hasParts, nextPart, nextPlace}
 use Rattle.layout.specs.Ready.{Ready, widthAllowed}

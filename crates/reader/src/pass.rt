@@ -111,7 +111,7 @@ fn after(end: Cursor, length: usize, held: usize) -> Reading
 }
 
 // One walk of a message, with the tests after it. What there is no room for is counted and not stored.
-pub fn pass(
+pub(crate) fn pass(
     rows: &[u32],
     members: &[u32],
     sizes: &[u32; 256],
@@ -144,7 +144,7 @@ pub fn pass(
 
 // Every test of the checker, by a walk that stores nothing. The arrays lent, zero before, get the sizes and the alignments that
 // it goes by.
-pub fn judge(
+pub(crate) fn judge(
     rows: &[u32],
     members: &[u32],
     sizes: &mut [u32; 256],

@@ -14,7 +14,7 @@ use Rattle.rules.specs.Bytes.{roundUp}
 use Rattle.rules.specs.TypeTable.{TypeTable, rowCount, kindAt, aAt, bAt, rowOf, memberRows}
 use Rattle.rules.specs.Sizes.{layoutOf, sizeOf, largestAlignment, fieldsFrom, fieldsOf}
 use Rattle.rules.specs.Decode as D
-use Rattle.layout.proofs.Rows.{both}
+use Rattle.rules.proofs.Tests.{both}
 use Rattle.nesting.specs.Nesting.{hasParts}
 use Rattle.layout.specs.Ready.{Ready}
 use Rattle.layout.proofs.Below.{AllBelow, more}

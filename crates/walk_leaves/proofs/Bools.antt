@@ -18,7 +18,7 @@ use Rattle.rules.specs.Walk as W
 use Rattle.words.specs.Bits.{allBits}
 use Rattle.words.proofs.Bits.{part-none-above}
 use Rattle.words.proofs.Loads.{word-byte}
-use Rattle.layout.proofs.Rows.{both}
+use Rattle.rules.proofs.Tests.{both}
 use Rattle.plans.specs.declared.Plan.{Plan}
 use Rattle.plans.specs.Plans.{partsSize, partsFrom, partsOf}
 use Rattle.layout.specs.Ready.{widthAllowed}

@@ -27,7 +27,7 @@ pub fn boolean(bytes: &[u8], values: &mut [u64], at: usize, c: Cursor) -> Walked
 }
 
 // The number of so many bytes at a place.
-pub fn number_of(bytes: &[u8], width: u32, at: usize) -> u64
+pub(crate) fn number_of(bytes: &[u8], width: u32, at: usize) -> u64
     requires { ⌜ widthAllowed width ≡ true ⌝ }
     ensures { λ r. ⌜ r ≡ word (now (bytes .entry)) at width ⌝ }
 {

@@ -34,7 +34,7 @@ pub enum Opened {
 }
 
 // A count with its presence: 9; absent 10, 11; present 12.
-pub fn count_record(bytes: &[u8], optional: u32, largest: u32, at: usize) -> Count
+pub(crate) fn count_record(bytes: &[u8], optional: u32, largest: u32, at: usize) -> Count
     requires { ⌜ at < 4294967296 ⌝ }
     ensures { λ r. ⌜ CountAt (now (bytes .entry)) optional largest at r ⌝ }
 {
@@ -59,7 +59,7 @@ pub fn count_record(bytes: &[u8], optional: u32, largest: u32, at: usize) -> Cou
 }
 
 // Goes one level deeper and claims: 5 at the record, 6, 7.
-pub fn deeper(
+pub(crate) fn deeper(
     bytes: &[u8],
     objects: &mut [u32],
     depth: usize,

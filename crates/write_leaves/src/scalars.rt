@@ -33,7 +33,7 @@ pub fn boolean(values: &[u64], out: &mut [u8], at: usize, c: Cursor) -> Wrote
 }
 
 // The largest number of a width.
-pub fn largest(width: u32) -> u64
+pub(crate) fn largest(width: u32) -> u64
     requires { ⌜ widthAllowed width ≡ true ⌝ }
     ensures { λ r. ⌜ r + 1 ≡ 256 ^ width ⌝ }
 {
@@ -49,7 +49,7 @@ pub fn largest(width: u32) -> u64
     18446744073709551615
 }
 
-pub fn put_word(out: &mut [u8], width: u32, at: usize, v: u64)
+pub(crate) fn put_word(out: &mut [u8], width: u32, at: usize, v: u64)
     requires { ⌜ (widthAllowed width ≡ true) × (v < 256 ^ width) ⌝ }
     ensures { λ _. ⌜ now (out .exit) ≡ sets (now (out .entry)) at (bytesOf width v) ⌝ }
 {

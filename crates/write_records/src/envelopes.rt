@@ -71,7 +71,7 @@ pub fn union_member(
     Member::Some(what, took(c))
 }
 
-pub fn put_envelope(out: &mut [u8], at: usize, low: u32, handles: u16, flags: u16)
+pub(crate) fn put_envelope(out: &mut [u8], at: usize, low: u32, handles: u16, flags: u16)
     requires { ⌜ at < 4294967296 ⌝ }
     ensures { λ _. ⌜ now (out .exit) ≡ sets (now (out .entry)) at (envelopeBytes low handles flags) ⌝ }
 {

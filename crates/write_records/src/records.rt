@@ -43,7 +43,7 @@ pub fn deeper(depth: usize, count: usize, size: usize, c: Cursor) -> Opened
     claim(count, size, c)
 }
 
-pub fn claim(count: usize, size: usize, c: Cursor) -> Opened
+pub(crate) fn claim(count: usize, size: usize, c: Cursor) -> Opened
     requires { ⌜ (c .next ≤ 65536) × (c .handles ≤ 64) × (0 < c .index) × (size < 281474976710656) ⌝ }
     ensures { λ r. ⌜ ClaimOpens size c r × HasCount count r × NotClosed r ⌝ }
 {
@@ -82,7 +82,7 @@ pub fn fill_up(out: &mut [u8], size: usize)
 
 // An object of numbers that is claimed, a string's bytes or the words of unknown content, and the fill after them: written into
 // the rest of the output from the object's own offset on.
-pub fn object_of_numbers(
+pub(crate) fn object_of_numbers(
     values: &[u64],
     out: &mut [u8],
     base: usize,

@@ -72,7 +72,7 @@ fn after(end: Cursor, total: usize) -> Written
 }
 
 // One walk of a value list, with the test after it. What there is no room for is counted and not stored.
-pub fn pass(
+pub(crate) fn pass(
     rows: &[u32],
     members: &[u32],
     sizes: &[u32; 256],
@@ -92,7 +92,7 @@ pub fn pass(
 
 // Every test but that of the room, by a pass that stores nothing. The arrays lent, zero before, get the sizes and the
 // alignments that it goes by.
-pub fn measure(
+pub(crate) fn measure(
     rows: &[u32],
     members: &[u32],
     sizes: &mut [u32; 256],

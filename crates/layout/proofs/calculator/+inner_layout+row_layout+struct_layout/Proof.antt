@@ -27,10 +27,10 @@ use Rattle.layout.proofs.sizes.array_layout.Reads as array-layout-reads
 use Rattle.layout.proofs.sizes.close.Reads as close-reads
 use Rattle.layout.proofs.sizes.fixed_layout.Reads as fixed-layout-reads
 use Rattle.layout.proofs.sizes.place.Reads as place-reads
-use Rattle.layout.proofs.table.a_at.Reads as a-at-reads
-use Rattle.layout.proofs.table.b_at.Reads as b-at-reads
-use Rattle.layout.proofs.table.kind_at.Reads as kind-at-reads
-use Rattle.layout.proofs.table.row_of.Reads as row-of-reads
+use Rattle.table.proofs.a_at.Reads as a-at-reads
+use Rattle.table.proofs.b_at.Reads as b-at-reads
+use Rattle.table.proofs.kind_at.Reads as kind-at-reads
+use Rattle.table.proofs.row_of.Reads as row-of-reads
 use Rattle.layout.proofs.calculator.+inner_layout+row_layout+struct_layout.{statement}
 use Rattle.layout.proofs.calculator.+inner_layout+row_layout+struct_layout.Tie.{close}
 
@@ -181,6 +181,7 @@ pub +inner-layout+row-layout+struct-layout-spec : {M : Type 1} → statement M
     let some : 0 < bAt y (s .args .row) = omega (arith, c .before .b-at .ensures) in
     rw (c .before .before .a-at .ensures, c .before .b-at .ensures)
     (placing-first y (s .args .row) (l .sound) (l .fits) (s .pre .1 .1) (omega (arith, l .few)) some))
+    (λ c. search needs)
     (λ c κs. search needs)
     -- a member: its row is below the struct's
     (λ c κs.
