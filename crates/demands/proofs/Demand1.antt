@@ -97,6 +97,7 @@ demand1 = record {
         refuses-told (writtenOf r) write (λ w. record { bytes = length (w .bytes); handles = w .handles }) (p .answer),
         keeps (andThen (writtenOf r) (λ n. accepted (n .bytes))) (andThen write (λ w. accepted (w .bytes))) out out′ (rw (p .answer) (byte-count write)) (p .output),
       );
+  prepare = λ r p. (refuses-same _ _ (p .answer), λ f q. let e = sym (p .answer) ∙ q in (p .sizes-list ∙ rw e, p .alignments-list ∙ rw e));
   layoutOf = λ r p. refuses-same _ _ (p .answer);
   readHeader = λ r p. refuses-same _ _ (p .answer);
   body = λ p f e. (p .bytes ∙ rw e, p .start ∙ rw e);

@@ -5,6 +5,8 @@ use contract.Lifetimes.{Lfts}
 use borrow.Fn.Kinds.{Dens, resT, endedOf}
 use denote.Triple.Clauses.{AtExit}
 use denote.Ref.{now, ptr}
+use Rattle.layout.proofs.prepare.Kinds as prepare-kinds
+use Rattle.layout.proofs.prepare.Reads as prepare
 use Rattle.layout.proofs.layout_of.Kinds as layout-kinds
 use Rattle.layout.proofs.layout_of.Reads as layout
 use Rattle.layout.proofs.root_allowed.Kinds as root-kinds
@@ -23,7 +25,15 @@ use Rattle.listing.proofs.listing.Kinds as listing-kinds
 use Rattle.listing.proofs.listing.Reads as listing
 use Rattle.demands.proofs.round_trip.Kinds as trip-kinds
 use Rattle.demands.proofs.round_trip.Reads as trip
-use Rattle.demands.specs.OtherPromises.{LaysOut, AllowsRoot, ReadsHeader, HandsBody, WritesHeader, IsText, AreText, Lists, RoundTrips}
+use Rattle.demands.specs.OtherPromises.{Prepares, LaysOut, AllowsRoot, ReadsHeader, HandsBody, WritesHeader, IsText, AreText, Lists, RoundTrips}
+
+module _ (κs : Lfts 4) (a : Dens κs prepare-kinds.ps) where
+  pub prepare-asks-nothing : prepare.Asked κs a
+  prepare-asks-nothing = tt
+
+  pub prepare-promises : (r : resT prepare-kinds.r κs .Denot) (s : AtExit (endedOf 4 prepare-kinds.ps prepare-kinds.r) κs) → prepare.Learnt κs a r s
+      → Prepares (now (a .0)) (now (a .1 .0)) (now (a .1 .1 .0)) (now (s .1 .1 .0)) (now (a .1 .1 .1 .0)) (now (s .1 .1 .1 .0)) r
+  prepare-promises r s l = record { answer = l .0; sizes-list = l .1 .0; alignments-list = l .1 .1 }
 
 module _ (κs : Lfts 2) (a : Dens κs layout-kinds.ps) where
   pub layout-of-asks-nothing : layout.Asked κs a

@@ -10,8 +10,10 @@ use lib.ListN.{length, drop}
 use Rattle.rules.specs.declared.Fault.{Fault}
 use Rattle.rules.specs.Refusals.{placeNumber, Answer, accepted, refused, andThen}
 use Rattle.rules.specs.TypeTable.{typeTable}
+use Rattle.rules.specs.Sound.{soundness}
 use Rattle.rules.specs.Answers as Rules
 use Rattle.rules.specs.Header as HeaderRules
+use Rattle.layout.specs.declared.Soundness.{Soundness}
 use Rattle.layout.specs.declared.LayoutAnswer.{LayoutAnswer}
 use Rattle.layout.specs.Answers as Layout
 use Rattle.header.specs.declared.Header.{Header}
@@ -30,7 +32,7 @@ use Rattle.demands.specs.declared.Trip.{Trip}
 use Rattle.demands.specs.declared.Trip.the-variants.{Refused}
 use Rattle.demands.specs.Promises.{Checks, ReadsValues, ReadsObjects, Reads, Writes}
 use Rattle.demands.specs.Trips.{trip, tripValues}
-use Rattle.demands.specs.OtherPromises.{LaysOut, ReadsHeader, HandsBody, WritesHeader, Lists, RoundTrips}
+use Rattle.demands.specs.OtherPromises.{Prepares, LaysOut, ReadsHeader, HandsBody, WritesHeader, Lists, RoundTrips}
 
 -- A refusal that is answered is the one that the rules give, number and place, and theirs is answered.
 abbrev pub Refuses : {A B : Type 0} → (answered : Answer A) (ruled : Answer B) → Type 0
@@ -54,6 +56,9 @@ pub record Demand1 : Type 0 where
       × Keeps (andThen (readingOf r) (λ n. accepted (n .values))) values values′ × Keeps (andThen (readingOf r) (λ n. accepted (n .objects))) objects objects′
   pub write : {rows members values out out′ : List ℕ} {root : ℕ} (r : Written) → Writes rows members root values out out′ r
       → Refuses (writtenOf r) (Rules.write (typeTable rows members) root values (length out)) × Keeps (andThen (writtenOf r) (λ n. accepted (n .bytes))) out out′
+  pub prepare : {rows members sizes sizes′ alignments alignments′ : List ℕ} (r : Soundness) → Prepares rows members sizes sizes′ alignments alignments′ r
+      → Refuses (Layout.verdictOf r) (soundness (typeTable rows members))
+      × ((f : Fault) → Layout.verdictOf r ≡ refused f → (sizes′ ≡ sizes) × (alignments′ ≡ alignments))
   pub layoutOf : {rows members : List ℕ} {row : ℕ} (r : LayoutAnswer) → LaysOut rows members row r → Refuses (Layout.answerOf r) (Rules.layoutAnswer (typeTable rows members) row)
   pub readHeader : {message : List ℕ} (r : HeaderAnswer) → ReadsHeader message r → Refuses (Meaning.answerOf r) (HeaderRules.readHeader message)
   -- Where the header is refused, the part handed back is the empty one at the message's start.

@@ -9,9 +9,11 @@ use lib.Seq.{sets}
 use Rattle.rules.specs.Refusals.{lentAfter}
 use Rattle.rules.specs.Bytes.{part}
 use Rattle.rules.specs.TypeTable.{typeTable}
+use Rattle.rules.specs.Sound.{soundness}
 use Rattle.rules.specs.Text.{isUtf8}
 use Rattle.rules.specs.Answers.{layoutAnswer, outputAfter}
 use Rattle.rules.specs.Header as Rules
+use Rattle.layout.specs.declared.Soundness.{Soundness}
 use Rattle.layout.specs.declared.LayoutAnswer.{LayoutAnswer}
 use Rattle.layout.specs.Answers as Layout
 use Rattle.header.specs.declared.Header.{Header}
@@ -22,6 +24,12 @@ use Rattle.walk_leaves.specs.Doing as Doing
 use Rattle.listing.specs.Listing.{listing}
 use Rattle.demands.specs.declared.Trip.{Trip}
 use Rattle.demands.specs.Trips.{trip, tripValues, tripOf}
+
+-- layout::prepare
+pub record Prepares (rows members sizes sizes′ alignments alignments′ : List ℕ) (r : Soundness) : Type 0 where
+  pub answer : Layout.verdictOf r ≡ soundness (typeTable rows members)
+  pub sizes-list : sizes′ ≡ Layout.givenIfSound (typeTable rows members) (Layout.keptSizes (typeTable rows members)) sizes
+  pub alignments-list : alignments′ ≡ Layout.givenIfSound (typeTable rows members) (Layout.keptAlignments (typeTable rows members)) alignments
 
 -- layout::layout_of
 pub record LaysOut (rows members : List ℕ) (row : ℕ) (r : LayoutAnswer) : Type 0 where
