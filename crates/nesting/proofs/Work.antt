@@ -20,19 +20,19 @@ module _ (A : Algebra) (layouts : ℕ → Layout) (inner : ℕ → A .Part) wher
 
   pub run-copies : (count row i : ℕ) → A .elements (layouts row .size) (λ k. inner row) i count ≡ run (itemsOf (copies count row))
   unfolding run itemsOf copies
-  run-copies zero row i = A .no-elements (layouts row .size) (λ k. inner row) i
+  run-copies zero row i = A .laws .no-elements (layouts row .size) (λ k. inner row) i
   run-copies (suc count) row i =
-      A .next-element (layouts row .size) (λ k. inner row) i count ∙ rw (A .no-fill, A .nothing-first (run (itemsOf (copies count row))), run-copies count row (suc i))
+      A .laws .next-element (layouts row .size) (λ k. inner row) i count ∙ rw (A .laws .no-fill, A .laws .nothing-first (run (itemsOf (copies count row))), run-copies count row (suc i))
 
   pub run-alone : (row : ℕ) → run (itemsOf (field row 0 ∷ [])) ≡ inner row
   unfolding run itemsOf
-  run-alone row = rw (A .no-fill, A .nothing-first (A .nothing), A .nothing-last (layouts row .size) (inner row))
+  run-alone row = rw (A .laws .no-fill, A .laws .nothing-first (A .nothing), A .laws .nothing-last (layouts row .size) (inner row))
 
   -- One after the other.
   run-append : (is js : List Item) → run (is ++ js) ≡ A .sequence (sizeOfItems layouts is) (run is) (run js)
   unfolding run sizeOfItems
-  run-append [] js = sym (A .nothing-first (run js))
-  run-append (i ∷ is) js = rw (run-append is js) (A .grouped (sizeOfItem layouts i) (sizeOfItems layouts is) (runItem i) (run is) (run js))
+  run-append [] js = sym (A .laws .nothing-first (run js))
+  run-append (i ∷ is) js = rw (run-append is js) (A .laws .grouped (sizeOfItem layouts i) (sizeOfItems layouts is) (runItem i) (run is) (run js))
 
   -- A value that is made of values may as well be taken apart.
   run-into : (row : ℕ) (is rest : List Item) → inner row ≡ run is → layouts row .size ≡ sizeOfItems layouts is → run (value row ∷ rest) ≡ run (is ++ rest)
@@ -42,25 +42,25 @@ module _ (A : Algebra) (layouts : ℕ → Layout) (inner : ℕ → A .Part) wher
 -- ---- what is left, at a place
 
 pub record WorkLeft {A : Algebra} (D : Doing A) (layouts : ℕ → Layout) (inner : ℕ → A .Part) (grow at : ℕ) (whole : A .Part) (l : D .Lent) (c : D .Cursor) (l′ : D .Lent) (d : D .Cursor) (is : List Item) (place : ℕ) : Type 0 where
-  pub work : Left D grow at whole l c l′ d (sizeOfItems layouts is) (run A layouts inner is) place
+  pub rest : Left D grow at whole l c l′ d (sizeOfItems layouts is) (run A layouts inner is) place
 
 -- The whole, taken apart.
 pub work-start : {A : Algebra} {D : Doing A} {layouts : ℕ → Layout} {inner : ℕ → A .Part} {size at : ℕ} {whole : A .Part} {l : D .Lent} {c : D .Cursor} (is : List Item)
     → D .Ask size at c → whole ≡ run A layouts inner is → size ≡ sizeOfItems layouts is → WorkLeft D layouts inner size at whole l c l c is at
-work-start is a e s = record { work = rw (← e, ← s) (left-start a) }
+work-start is a e s = record { rest = rw (← e, ← s) (left-start a) }
 
 module _ {A : Algebra} {D : Doing A} {layouts : ℕ → Layout} {inner : ℕ → A .Part} {grow at : ℕ} {whole : A .Part} {l : D .Lent} {c : D .Cursor} {l′ : D .Lent} {d : D .Cursor} where
   module _ {i : Item} {is : List Item} {place : ℕ} (w : WorkLeft D layouts inner grow at whole l c l′ d (i ∷ is) place) where
     item-left : Left D grow at whole l c l′ d (sizeOfItem layouts i + sizeOfItems layouts is) (A .sequence (sizeOfItem layouts i) (runItem A layouts inner i) (run A layouts inner is)) place
     unfolding run sizeOfItems
-    item-left = w .work
+    item-left = w .rest
 
     pub item-asks : D .Ask (sizeOfItem layouts i) place d
     item-asks = first-asks _ _ _ _ item-left
 
     pub item-on : {l″ : D .Lent} {e : D .Cursor} → D .Did (sizeOfItem layouts i) place l′ l″ d (D .on e) (runItem A layouts inner i)
         → WorkLeft D layouts inner grow at whole l c l″ e is (place + sizeOfItem layouts i)
-    item-on did = record { work = left-on _ _ _ _ item-left did }
+    item-on did = record { rest = left-on _ _ _ _ item-left did }
 
     pub item-refused : {l″ : D .Lent} {f : Fault} → D .Did (sizeOfItem layouts i) place l′ l″ d (D .refused f) (runItem A layouts inner i) → D .Did grow at l l″ c (D .refused f) whole
     item-refused did = left-refused _ _ _ _ item-left did
@@ -68,8 +68,8 @@ module _ {A : Algebra} {D : Doing A} {layouts : ℕ → Layout} {inner : ℕ →
   -- The value that is next, taken apart.
   pub work-into : {row : ℕ} {rest : List Item} {place : ℕ} (is : List Item) → WorkLeft D layouts inner grow at whole l c l′ d (value row ∷ rest) place
       → inner row ≡ run A layouts inner is → layouts row .size ≡ sizeOfItems layouts is → WorkLeft D layouts inner grow at whole l c l′ d (is ++ rest) place
-  work-into {row} {rest} is w e s = record { work = rw (into-size layouts row is rest s, run-into A layouts inner row is rest e s) at (w .work) }
+  work-into {row} {rest} is w e s = record { rest = rw (into-size layouts row is rest s, run-into A layouts inner row is rest e s) at (w .rest) }
 
   pub work-end : {place : ℕ} → WorkLeft D layouts inner grow at whole l c l′ d [] place → D .Did grow at l l′ c (D .on d) whole
   unfolding run sizeOfItems
-  work-end w = left-end (w .work)
+  work-end w = left-end (w .rest)

@@ -16,6 +16,7 @@ use Rattle.plans.proofs.Plans.{parts-next, parts-none}
 use Rattle.nesting.proofs.Algebra.{Algebra, Doing}
 use Rattle.nesting.proofs.Work.{run, WorkLeft, work-start, item-on, item-refused, work-end}
 
+-- What is left of them, at a place; each goes by its width.
 pub record PartsLeft {A : Algebra} (D : Doing A) (inner : ℕ → A .Part) (size at : ℕ) (whole : A .Part) (l : D .Lent) (c : D .Cursor) (l′ : D .Lent) (d : D .Cursor) (left : List Field) (place : ℕ) : Type 0 where
   pub runs : Runnable left
   pub parts : WorkLeft D widthLayout inner size at whole l c l′ d (itemsOf left) place
@@ -49,7 +50,7 @@ module _ {A : Algebra} {D : Doing A} {inner : ℕ → A .Part} {size at : ℕ} {
     -- with its fill
     pub part-asks : D .Ask (widthSize width + fill) place d
     unfolding itemsOf sizeOfItems
-    part-asks = D .ask-first (widthSize width + fill) (sizeOfItems widthLayout (itemsOf rest)) (rw (add-assoc (widthSize width) fill (sizeOfItems widthLayout (itemsOf rest))) (p .parts .work .asks))
+    part-asks = D .laws .ask-first (widthSize width + fill) (sizeOfItems widthLayout (itemsOf rest)) (rw (add-assoc (widthSize width) fill (sizeOfItems widthLayout (itemsOf rest))) (p .parts .rest .asks))
 
     module _ {l″ : D .Lent} {r : D .Answer} (did : D .Did (widthSize width) place l′ l″ d r (inner width)) where
       pub part-refused : {f : Fault} → r ≡ D .refused f → D .Did size at l l″ c (D .refused f) whole

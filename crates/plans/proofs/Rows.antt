@@ -2,14 +2,14 @@
 -- values go by their plan.
 -- Assumes nothing.
 use mathlib.Core.Bool.{true}
-use mathlib.Core.List.{List, [], _∷_}
+use mathlib.Core.List.{List}
 use mathlib.Core.Path.{_≡_, refl, sym, subst, _∙_}
-use Prim.Native.Nat.{ℕ, _+_, _*_, _≤_, _<_}
+use Prim.Native.Nat.{ℕ, _*_, _≤_, _<_}
 use native.Mathlib.Omega.{arith}
 use lib.ListN.{getD}
 use Rattle.rules.specs.Refusals.{accepted}
 use Rattle.rules.specs.TypeTable.{TypeTable, rowCount, kindAt, aAt, bAt, memberRows}
-use Rattle.rules.specs.Sizes.{Field, field, layoutOf, sizeOf, fieldsOf}
+use Rattle.rules.specs.Sizes.{Field, layoutOf, sizeOf, fieldsOf}
 use Rattle.rules.specs.Sound.{soundness}
 use Rattle.plans.specs.declared.Plan.{Plan}
 use Rattle.nesting.specs.Nesting.{hasParts}
@@ -25,6 +25,7 @@ use Rattle.plans.proofs.Plans.{Flat, a-bool, a-number, AllFlat, none, m
 use Rattle.nesting.proofs.Algebra.{Algebra, Doing}
 use Rattle.nesting.proofs.Work.{run, run-copies, run-alone, WorkLeft, work-start, work-into}
 
+-- For a row a side does `inner`; for a bool, as the width 0, or a number of a width, `width`.
 pub record RowsOf (A : Algebra) (t : TypeTable) (inner width : ℕ → A .Part) : Type 0 where
   pub sound : soundness t ≡ accepted tt
   pub bool : (row : ℕ) → kindAt t row ≡ 1 → inner row ≡ width 0
@@ -64,7 +65,7 @@ module _ {A : Algebra} {t : TypeTable} {inner width : ℕ → A .Part} (rows : R
   all-flat none = refl
   all-flat (more f fs) = rw (flat-size f, flat-part f, all-flat fs)
 
-  pub row-flat : {row : ℕ} {parts : List Field} → row < rowCount t → FlatRow t row parts → inner row ≡ run A widthLayout width (itemsOf parts)
+  row-flat : {row : ℕ} {parts : List Field} → row < rowCount t → FlatRow t row parts → inner row ≡ run A widthLayout width (itemsOf parts)
   row-flat used (bool-row e) = rows .bool _ e ∙ sym (run-alone A widthLayout width 0)
   row-flat {row} used (struct-row kind some fs) = rows .struct row used kind some ∙ all-flat fs
 
@@ -92,5 +93,5 @@ module _ {t : TypeTable} {sizes alignments : List ℕ} {depth row : ℕ} (ready 
     pub alone-done : D .Ask (sizeOf t row) at c → (D .Ask (1 * size) at c → D .Did (1 * size) at l l′ c r (A .elements size (λ k. part) 0 1)) → D .Did (sizeOf t row) at l l′ c r (inner row)
     alone-done a did =
         let once : 1 * sizeOf t row ≡ sizeOf t row = omega arith in
-        rw (once, A .next-element (sizeOf t row) (λ k. inner row) 0 0, A .no-elements (sizeOf t row) (λ k. inner row) 1, A .nothing-last (sizeOf t row) (inner row)) at
+        rw (once, A .laws .next-element (sizeOf t row) (λ k. inner row) 0 0, A .laws .no-elements (sizeOf t row) (λ k. inner row) 1, A .laws .nothing-last (sizeOf t row) (inner row)) at
         (plan-done 1 (rw once a) did)

@@ -121,7 +121,7 @@ module _ {t : TypeTable} {sizes alignments : List ℕ} {depth row : ℕ} (ready 
       pub member-filled : {d : Cursor} → x ≡ On d → {size whole : ℕ} → size ≡ getD sizes part 0 → whole ≡ getD sizes row 0
           → (r : Walked) → DidNeither bytes 0 (at + size) d r (λ m. D.fill m ((at + whole) - (at + size))) → ValueDid t bytes handles depth v v′ o o′ at c row r
       member-filled {d} same {size} {whole} s w r filled =
-          end r (did-more (sizeOf t row - sizeOf t part) (omega arith) (rw (fill, ← (row-size ready part part-used s)) at (filled t v′ o′ handles (left .work .asks .free) (left .work .asks .held))))
+          end r (did-more (sizeOf t row - sizeOf t part) (omega arith) (rw (fill, ← (row-size ready part part-used s)) at (filled t v′ o′ handles (left .rest .asks .free) (left .rest .asks .held))))
         where
           left : Left v′ o′ d (gap (sizeOf t row - sizeOf t part) ∷ []) (at + sizeOf t part)
           left = item-on start (rw same at did)

@@ -42,7 +42,7 @@ module _ (t : TypeTable) (bytes : List ℕ) (handles depth top at : ℕ) (v o : 
       WorkLeft (reading (message t bytes handles)) (layoutOf t) (walkRow t bytes handles depth) (sizeOf t top) at (walkRow t bytes handles depth top) (v, o) c (v′, o′) d is place
 
   bounded : (v′ o′ : List ℕ) (d : Cursor) → Bounded t (ValueLeft v′ o′ d)
-  bounded v′ o′ d is place w = omega (arith, w .work .asks .inside, w .work .asks .short)
+  bounded v′ o′ d is place w = omega (arith, w .rest .asks .inside, w .rest .asks .short)
 
   -- What the loop keeps.
   pub record Walking (none : Level) (alignments v′ o′ : List ℕ) (kept : List Level) (around : ℕ) (level : Level) (due : Bool) (place : ℕ) (d : Cursor) : Type 0 where
@@ -70,7 +70,7 @@ module _ {t : TypeTable} {sizes alignments bytes : List ℕ} {handles depth top 
 
     filled : (next : ℕ) {x r : Walked} → DidNeither bytes 0 place d x (λ m. D.fill m (next - place)) → x ≡ r
         → Did (length bytes) handles (next - place) v′ v′ o′ o′ d r (D.fill (message t bytes handles) (next - place) place (d .next) (d .handles))
-    filled next did same = did-more (next - place) (omega arith) (rw same at (did t v′ o′ handles (w .going .work .work .asks .free) (w .going .work .work .asks .held)))
+    filled next did same = did-more (next - place) (omega arith) (rw same at (did t v′ o′ handles (w .going .work .rest .asks .free) (w .going .work .rest .asks .held)))
 
     module _ {step : Step} (e : step ≡ nextStep (t .rows) (t .members) level alignments due place around) where
       is : {s : Step} → step ≡ s → Stepped (t .rows) (t .members) level alignments place around due s

@@ -27,7 +27,7 @@ use Rattle.walk_leaves.specs.declared.cursor.Walked.the-variants.{On}
 use Rattle.walk_leaves.specs.Doing.{message, Ask}
 use Rattle.walk_leaves.specs.Parts.{boolAt, numbersAt, DidValues}
 use Rattle.walk_leaves.specs.Planning.{partsAt, DidAsked}
-use Rattle.walk_leaves.proofs.Reading.{no-fill, nothing-first, nothing-last}
+use Rattle.walk_leaves.proofs.Reading.{decoders-grouped}
 use Rattle.walk_leaves.proofs.Results.{then-same}
 use Rattle.walk_leaves.proofs.Steps.{did-more}
 
@@ -46,7 +46,7 @@ module _ (m : Message) where
   -- No fill follows a bool alone.
   pub one-bool : partsAt (field 0 0 ∷ []) m ≡ boolAt m
   unfolding W.fields
-  one-bool = rw (no-fill m, nothing-first D.nothing, nothing-last 1 (boolAt m))
+  one-bool = let g = decoders-grouped m in rw (g .no-fill, g .nothing-first D.nothing, g .nothing-last 1 (boolAt m))
 
   -- A bool that is not above 1 is a number of one byte, and so is a run of them.
   bool-number : (at n u : ℕ) → getD (m .bytes) at 0 ≤ 1 → boolAt m at n u ≡ decodeWord m 1 at n u

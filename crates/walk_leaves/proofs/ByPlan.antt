@@ -24,7 +24,7 @@ use Rattle.walk_leaves.specs.Doing.{message, gaveOne}
 use Rattle.walk_leaves.specs.Parts.{boolAt, DidValues, DidNeither}
 use Rattle.walk_leaves.specs.Planning.{widthAt, partsAt, DidAsked}
 use Rattle.walk_leaves.proofs.InLine.{number-given}
-use Rattle.walk_leaves.proofs.Reading.{no-fill, readingAny}
+use Rattle.walk_leaves.proofs.Reading.{decoders-grouped, readingAny}
 use Rattle.walk_leaves.proofs.Steps.{did-nothing, did-more}
 
 -- ---- one part, and fill
@@ -42,7 +42,7 @@ module _ (bytes values : List ℕ) (width at : ℕ) (c : Cursor) where
 
 pub filled-none : (bytes : List ℕ) (at count : ℕ) (c : Cursor) → count ≡ 0 → DidNeither bytes 0 at c (On c) (λ m. D.fill m count)
 filled-none bytes at count c e t values objects handles free held =
-    rw (e, no-fill (message t bytes handles)) (did-nothing free held)
+    rw (e, decoders-grouped (message t bytes handles) .no-fill) (did-nothing free held)
 
 -- ---- the parts of a value, and a run of values
 

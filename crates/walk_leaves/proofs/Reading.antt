@@ -2,20 +2,20 @@
 -- Assumes nothing.
 use mathlib.Core.List.{List, [], _∷_}
 use mathlib.Core.Path.{_≡_, refl, sym, ap, fun-ext}
-use Prim.Native.Nat.{ℕ, suc, _+_}
+use Prim.Native.Nat.{ℕ, _+_}
 use native.Mathlib.Nat.{add-assoc, add-zero}
 use native.Mathlib.Omega.{arith}
 use lib.ListN.{length}
-use Rattle.rules.specs.declared.Fault.{Fault}
 use Rattle.rules.specs.declared.Layout.{Layout}
 use Rattle.rules.specs.Bytes.{part, leadingZeros}
+use Rattle.rules.specs.TypeTable.{TypeTable}
 use Rattle.rules.specs.Sizes.{Field, field}
 use Rattle.rules.specs.Decode as D
-use Rattle.rules.specs.Decode.{Message, Decoded, Decoder}
+use Rattle.rules.specs.Decode.{Message, Decoder}
 use Rattle.rules.specs.Walk as W
 use Rattle.plans.specs.Plans.{widthSize, widthLayout}
 use Rattle.layout.specs.Ready.{someTable}
-use Rattle.nesting.proofs.Algebra.{Algebra, Doing}
+use Rattle.nesting.proofs.Algebra.{Grouping, Algebra, Leading, Doing}
 use Rattle.nesting.proofs.Items.{itemsOf}
 use Rattle.nesting.proofs.Work.{run}
 use Rattle.walk_leaves.specs.declared.cursor.Cursor.{Cursor}
@@ -28,47 +28,22 @@ use Rattle.walk_leaves.proofs.Results.{after-none, then-nothing, then-t
 
 -- ---- the rules' parts
 
-pub decoders-same : {p q : Decoder} → ((at n u : ℕ) → p at n u ≡ q at n u) → p ≡ q
+decoders-same : {p q : Decoder} → ((at n u : ℕ) → p at n u ≡ q at n u) → p ≡ q
 decoders-same e = fun-ext (λ at. fun-ext (λ n. fun-ext (λ u. e at n u)))
 
-pub no-fill : (m : Message) → D.fill m 0 ≡ D.nothing
-unfolding D.fill part leadingZeros
-no-fill m = refl
-
-pub nothing-first : (p : Decoder) → D.sequence 0 D.nothing p ≡ p
-unfolding D.sequence
-nothing-first p = decoders-same (λ at n u. rw (add-zero at) (after-none (p at n u)))
-
-pub nothing-last : (size : ℕ) (p : Decoder) → D.sequence size p D.nothing ≡ p
-unfolding D.sequence
-nothing-last size p = decoders-same (λ at n u. then-nothing (p at n u))
-
-pub grouped : (a b : ℕ) (p q r : Decoder) → D.sequence a p (D.sequence b q r) ≡ D.sequence (a + b) (D.sequence a p q) r
-unfolding D.sequence
-grouped a b p q r = decoders-same (λ at n u. rw (← (add-assoc at a b)) (sym (then-then (p at n u) (λ n₁ u₁. q (at + a) n₁ u₁) (λ n₂ u₂. r (at + a + b) n₂ u₂))))
-
-pub no-elements : (size : ℕ) (parts : ℕ → Decoder) (i : ℕ) → D.elements size parts i 0 ≡ D.nothing
-unfolding D.elements
-no-elements size parts i = refl
-
-pub next-element : (size : ℕ) (parts : ℕ → Decoder) (i count : ℕ) → D.elements size parts i (suc count) ≡ D.sequence size (parts i) (D.elements size parts (suc i) count)
-unfolding D.elements
-next-element size parts i count = refl
+pub decoders-grouped : (m : Message) → Grouping Decoder D.nothing (D.fill m) D.sequence D.elements
+unfolding D.fill D.sequence D.elements part leadingZeros
+decoders-grouped m = record {
+  no-fill = refl;
+  nothing-first = λ p. decoders-same (λ at n u. rw (add-zero at) (after-none (p at n u)));
+  nothing-last = λ size p. decoders-same (λ at n u. then-nothing (p at n u));
+  grouped = λ a b p q r. decoders-same (λ at n u. rw (← (add-assoc at a b)) (sym (then-then (p at n u) (λ n₁ u₁. q (at + a) n₁ u₁) (λ n₂ u₂. r (at + a + b) n₂ u₂))));
+  no-elements = λ size parts i. refl;
+  next-element = λ size parts i count. refl;
+}
 
 abbrev pub decoders : Message → Algebra
-decoders m = record {
-  Part = Decoder;
-  nothing = D.nothing;
-  fill = D.fill m;
-  sequence = D.sequence;
-  elements = D.elements;
-  no-fill = no-fill m;
-  nothing-first = nothing-first;
-  nothing-last = nothing-last;
-  grouped = grouped;
-  no-elements = no-elements;
-  next-element = next-element;
-}
+decoders m = record { Part = Decoder; nothing = D.nothing; fill = D.fill m; sequence = D.sequence; elements = D.elements; laws = decoders-grouped m }
 
 -- A struct's fields, in order.
 pub run-fields : (m : Message) (layouts : ℕ → Layout) (inner : ℕ → Decoder) (fs : List Field) → W.fields m layouts inner fs ≡ run (decoders m) layouts inner (itemsOf fs)
@@ -76,7 +51,38 @@ unfolding W.fields run itemsOf
 run-fields m layouts inner [] = refl
 run-fields m layouts inner (field row fill ∷ fs) = rw (run-fields m layouts inner fs)
 
--- The same of any message.
+-- ---- doing them
+
+abbrev pub DidPart : (m : Message) (size place : ℕ) (l l′ : List ℕ × List ℕ) → Cursor → Walked → Decoder → Type 0
+DidPart m size place l l′ c r p = Did (length (m .bytes)) (m .handles) size (l .0) (l′ .0) (l .1) (l′ .1) c r (p place (c .next) (c .handles))
+
+pub did-leads : (m : Message) → Leading (decoders m) Cursor (List ℕ × List ℕ) Walked On Refused (Ask (length (m .bytes)) (m .handles)) (DidPart m)
+unfolding D.sequence
+did-leads m = record {
+  ask-first = λ first rest a. record { short = a .short; few = a .few; inside = omega (arith, a .inside); free = a .free; held = a .held; small = omega (arith, a .small) };
+  ask-rest = λ first rest place p a did.
+      let w = went-on did refl in
+      record { short = a .short; few = a .few; inside = omega (arith, a .inside); free = w .0; held = w .1; small = omega (arith, a .small, w .2) };
+  did-nothing = λ a. did-nothing (a .free) (a .held);
+  did-then = λ first rest place p q a did later. did-then (first + rest) (λ n u. q (place + first) n u) did later (omega (arith, went-on did refl .2));
+  did-halt = λ first rest place p q did. did-halt (first + rest) (λ n u. q (place + first) n u) did;
+}
+
+abbrev pub reading : (m : Message) → Doing (decoders m)
+reading m = record { Cursor = Cursor; Lent = List ℕ × List ℕ; Answer = Walked; on = On; refused = Refused; Ask = Ask (length (m .bytes)) (m .handles); Did = DidPart m; laws = did-leads m }
+
+-- ---- under any type table, with any handle count, wherever it is asked for; the objects are left alone
+
+pub any-grouped : Grouping (Message → Decoder) (λ m. D.nothing) (λ count m. D.fill m count) (λ size p q m. D.sequence size (p m) (q m)) (λ size parts i count m. D.elements size (λ k. parts k m) i count)
+any-grouped = record {
+  no-fill = fun-ext (λ m. decoders-grouped m .no-fill);
+  nothing-first = λ p. fun-ext (λ m. decoders-grouped m .nothing-first (p m));
+  nothing-last = λ size p. fun-ext (λ m. decoders-grouped m .nothing-last size (p m));
+  grouped = λ a b p q r. fun-ext (λ m. decoders-grouped m .grouped a b (p m) (q m) (r m));
+  no-elements = λ size parts i. fun-ext (λ m. decoders-grouped m .no-elements size (λ k. parts k m) i);
+  next-element = λ size parts i count. fun-ext (λ m. decoders-grouped m .next-element size (λ k. parts k m) i count);
+}
+
 abbrev pub anyDecoders : Algebra
 anyDecoders = record {
   Part = Message → Decoder;
@@ -84,86 +90,35 @@ anyDecoders = record {
   fill = λ count m. D.fill m count;
   sequence = λ size p q m. D.sequence size (p m) (q m);
   elements = λ size parts i count m. D.elements size (λ k. parts k m) i count;
-  no-fill = fun-ext no-fill;
-  nothing-first = λ p. fun-ext (λ m. nothing-first (p m));
-  nothing-last = λ size p. fun-ext (λ m. nothing-last size (p m));
-  grouped = λ a b p q r. fun-ext (λ m. grouped a b (p m) (q m) (r m));
-  no-elements = λ size parts i. fun-ext (λ m. no-elements size (λ k. parts k m) i);
-  next-element = λ size parts i count. fun-ext (λ m. next-element size (λ k. parts k m) i count);
+  laws = any-grouped;
 }
 
+-- The parts of a plan, in order.
 pub run-parts : (fs : List Field) → partsAt fs ≡ run anyDecoders widthLayout (λ width m. widthAt m width) (itemsOf fs)
 unfolding W.fields run itemsOf
 run-parts [] = refl
 run-parts (field width fill ∷ fs) =
     ap {B = Message → Decoder} (λ (rest : Message → Decoder) (m : Message). D.sequence (widthSize width) (widthAt m width) (D.sequence fill (D.fill m fill) (rest m))) (run-parts fs)
 
--- ---- doing them
+abbrev pub DidAny : (bytes : List ℕ) (size place : ℕ) (v v′ : List ℕ) → Cursor → Walked → (Message → Decoder) → Type 0
+DidAny bytes size place v v′ c r p = DidAsked bytes v v′ size place c r p
 
-module _ {total handles : ℕ} (first rest : ℕ) where
-  pub ask-first : {place : ℕ} {c : Cursor} → Ask total handles (first + rest) place c → Ask total handles first place c
-  ask-first a = record { short = a .short; few = a .few; inside = omega (arith, a .inside); free = a .free; held = a .held; small = omega (arith, a .small) }
-
-  pub ask-rest : {place : ℕ} {v v′ o o′ : List ℕ} {c d : Cursor} {x : Decoded} → Ask total handles (first + rest) place c → Did total handles first v v′ o o′ c (On d) x
-      → Ask total handles rest (place + first) d
-  ask-rest a did =
-      let w = went-on did refl in
-      record { short = a .short; few = a .few; inside = omega (arith, a .inside); free = w .0; held = w .1; small = omega (arith, a .small, w .2) }
-
-  module _ (place : ℕ) (p q : Decoder) {v v′ o o′ : List ℕ} {c : Cursor} where
-    pub part-then : {v″ o″ : List ℕ} {d : Cursor} {r : Walked} → Did total handles first v v′ o o′ c (On d) (p place (c .next) (c .handles))
-        → Did total handles rest v′ v″ o′ o″ d r (q (place + first) (d .next) (d .handles)) → Did total handles (first + rest) v v″ o o″ c r (D.sequence first p q place (c .next) (c .handles))
-    unfolding D.sequence
-    part-then did later = did-then (first + rest) (λ n u. q (place + first) n u) did later (omega (arith, went-on did refl .2))
-
-    pub part-halt : {f : Fault} → Did total handles first v v′ o o′ c (Refused f) (p place (c .next) (c .handles))
-        → Did total handles (first + rest) v v′ o o′ c (Refused f) (D.sequence first p q place (c .next) (c .handles))
-    unfolding D.sequence
-    part-halt did = did-halt (first + rest) (λ n u. q (place + first) n u) did
-
-abbrev pub reading : (m : Message) → Doing (decoders m)
-reading m = record {
-  Cursor = Cursor;
-  Lent = List ℕ × List ℕ;
-  Answer = Walked;
-  on = On;
-  refused = Refused;
-  Ask = Ask (length (m .bytes)) (m .handles);
-  Did = λ size place l l′ c r p. Did (length (m .bytes)) (m .handles) size (l .0) (l′ .0) (l .1) (l′ .1) c r (p place (c .next) (c .handles));
-  ask-first = λ first rest a. ask-first first rest a;
-  ask-rest = λ first rest a did. ask-rest first rest a did;
-  did-nothing = λ a. did-nothing (a .free) (a .held);
-  did-then = λ first rest place p q a did later. part-then first rest place p q did later;
-  did-halt = λ first rest place p q did. part-halt first rest place p q did;
+pub any-leads : (bytes : List ℕ) → Leading anyDecoders Cursor (List ℕ) Walked On Refused (Ask (length bytes) 64) (DidAny bytes)
+any-leads bytes = record {
+  ask-first = λ first rest a. at someTable 64 .ask-first first rest a;
+  ask-rest = λ first rest place p a did. at someTable 64 .ask-rest first rest place (p (message someTable bytes 64)) a (did someTable [] 64 (at someTable 64 .ask-first first rest a));
+  did-nothing = λ a t objects handles asked. at t handles .did-nothing asked;
+  did-then = λ first rest place p q a did later t objects handles asked.
+      let m = message t bytes handles in
+      let done = did t objects handles (at t handles .ask-first first rest asked) in
+      at t handles .did-then first rest place (p m) (q m) asked done (later t objects handles (at t handles .ask-rest first rest place (p m) asked done));
+  did-halt = λ first rest place p q did t objects handles asked.
+      let m = message t bytes handles in
+      at t handles .did-halt first rest place (p m) (q m) (did t objects handles (at t handles .ask-first first rest asked));
 }
-
--- ---- done under any type table, with any handle count, wherever it is asked for; the objects are left alone
-
-module _ {bytes : List ℕ} (first rest place : ℕ) (p q : Message → Decoder) {v v′ : List ℕ} {c : Cursor} where
-  pub asked-then : {v″ : List ℕ} {d : Cursor} {r : Walked} → DidAsked bytes v v′ first place c (On d) p → DidAsked bytes v′ v″ rest (place + first) d r q
-      → DidAsked bytes v v″ (first + rest) place c r (λ m. D.sequence first (p m) (q m))
-  asked-then did later t objects handles a =
-      let m = message t bytes handles in
-      let done = did t objects handles (ask-first first rest a) in
-      part-then first rest place (p m) (q m) done (later t objects handles (ask-rest first rest a done))
-
-  pub asked-halt : {f : Fault} → DidAsked bytes v v′ first place c (Refused f) p → DidAsked bytes v v′ (first + rest) place c (Refused f) (λ m. D.sequence first (p m) (q m))
-  asked-halt did t objects handles a =
-      let m = message t bytes handles in
-      part-halt first rest place (p m) (q m) (did t objects handles (ask-first first rest a))
+  where
+    at : (t : TypeTable) (handles : ℕ) → Leading (decoders (message t bytes handles)) Cursor (List ℕ × List ℕ) Walked On Refused (Ask (length bytes) handles) (DidPart (message t bytes handles))
+    at t handles = did-leads (message t bytes handles)
 
 abbrev pub readingAny : (bytes : List ℕ) → Doing anyDecoders
-readingAny bytes = record {
-  Cursor = Cursor;
-  Lent = List ℕ;
-  Answer = Walked;
-  on = On;
-  refused = Refused;
-  Ask = Ask (length bytes) 64;
-  Did = λ size place v v′ c r p. DidAsked bytes v v′ size place c r p;
-  ask-first = λ first rest a. ask-first first rest a;
-  ask-rest = λ first rest a did. ask-rest first rest a (did someTable [] 64 (ask-first first rest a));
-  did-nothing = λ a t objects handles asked. did-nothing (asked .free) (asked .held);
-  did-then = λ first rest place p q a did later. asked-then first rest place p q did later;
-  did-halt = λ first rest place p q did. asked-halt first rest place p q did;
-}
+readingAny bytes = record { Cursor = Cursor; Lent = List ℕ; Answer = Walked; on = On; refused = Refused; Ask = Ask (length bytes) 64; Did = DidAny bytes; laws = any-leads bytes }

@@ -40,7 +40,7 @@ module _ (t : TypeTable) (values : List ℕ) (base depth top at : ℕ) (out : Li
   PartsLeft = WorkLeft (writing values base) (layoutOf t) (writeRow t depth) (sizeOf t top) at (writeRow t depth top) out c out′ d
 
   parts-bounded : Bounded t PartsLeft
-  parts-bounded is place w = omega (arith, w .work .asks .inside, w .work .asks .free)
+  parts-bounded is place w = omega (arith, w .rest .asks .inside, w .rest .asks .free)
 
 -- The state of the loop.
 pub record Writing (none : Level) (t : TypeTable) (alignments values : List ℕ) (base depth top at : ℕ) (out : List ℕ) (c : Cursor)
@@ -77,7 +77,7 @@ module _ {none : Level} {t : TypeTable} {sizes alignments values : List ℕ} {ba
     fill-done {next} {out″} q stored =
         let f = T.turn-fill ready bounded (step q) (w .going) in
         let stops : place + (next - place) ≡ next = omega (arith, f .0) in
-        let left = item-on (f .2) (fill-put (next - place) (ask-stands (f .2 .work .asks)) stored base) in
+        let left = item-on (f .2) (fill-put (next - place) (ask-stands (f .2 .rest .asks)) stored base) in
         let turn = T.turn-filled ready bounded (step q) (w .going) (PartsLeft t values base depth top at out c out″ d) (rw stops at left) in
         (record { going = turn .0; lengths = ap length stored ∙ length-sets out′ place (zeros (next - place)) ∙ w .lengths }, turn .1)
 

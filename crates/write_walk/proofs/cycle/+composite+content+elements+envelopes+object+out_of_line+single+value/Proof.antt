@@ -9,7 +9,7 @@ use mathlib.Core.Path.{_≡_, refl, sym, ap, _∙_}
 use Prim.Native.Nat.{ℕ, _+_, _-_, _*_, _≤_, _<_}
 use native.Mathlib.Omega.{arith}
 use borrow.Author.Needs.{needs}
-use lib.ListN.{length, drop}
+use lib.ListN.{length}
 use Rattle.rules.specs.TypeTable.{typeTable}
 use Rattle.rules.specs.Sizes.{sizeOf}
 use Rattle.rules.specs.Encode as E
@@ -17,10 +17,10 @@ use Rattle.layout.specs.Ready.{Ready}
 use Rattle.ordinals.proofs.Members.{members-rise, ordinal-content, ordinal-fits, vector-in-use, box-in-use, table-members, union-members, union-else}
 use Rattle.nesting.proofs.NoParts.{outside-left}
 use Rattle.layout.proofs.Readiness.{row-few, row-in-use, row-size, size-small, ready-at, few-elements}
+use Rattle.nesting.proofs.Runs.{RunLeft, run-start, run-asks, run-next, run-stopped, run-end}
 use Rattle.nesting.proofs.Steps.{fuel}
 use Rattle.write_walk.specs.Walking.{writeRow, writeElements}
 use Rattle.write_leaves.proofs.Leading.{ask-stands, wrote-length}
-use Rattle.nesting.proofs.Runs.{RunLeft, run-start, run-asks, run-next, run-stopped, run-end}
 use Rattle.write_leaves.proofs.Writing.{writing}
 use Rattle.write_walk.proofs.Values.{value-bool, value-number, value-handle, value-string, value-empty, string-ask, number-ask, numbers-ask, numbers-done, array-ask, array-done}
 use Rattle.write_walk.proofs.Plans.{planned-ask, planned-done, alone-ask, alone-done}
