@@ -24,10 +24,12 @@ use Rattle.reader.specs.declared.Reading.{Reading}
 use Rattle.reader.specs.declared.Reading.the-variants as Both
 use Rattle.walk_leaves.specs.Doing as Doing
 use Rattle.reader.specs.Answers.{verdictOf, givenOf, readingOf, lengthOf, lengthsOf, valuesIn, objectsIn}
+use Rattle.reader.proofs.Numbers.{given-numbers, reading-numbers}
 use Rattle.writer.specs.declared.Sizes.{Sizes}
 use Rattle.writer.specs.declared.Written.{Written}
 use Rattle.writer.specs.declared.Written.the-variants as Whole
 use Rattle.writer.specs.Answers.{writtenOf, sizesOf}
+use Rattle.writer.proofs.Numbers.{written-numbers}
 use Rattle.demands.specs.Promises.{Checks, ReadsValues, ReadsObjects, Reads, Writes}
 use Rattle.demands.specs.Demands.{IsReadAs, IsListedAs, IsReadBothAs, IsWrittenAs, Demand2, Canonical, Demand3}
 use Rattle.demands.proofs.More.{values-more, objects-more, write-more, each-of}
@@ -130,7 +132,8 @@ module _ (rows members : List ℕ) (root : ℕ) where
   has-value message handles values i room fits =
       let m = Doing.message (typeTable rows members) message handles in
       let given = Rules.readValues m root (length values) in
-      let q = i values (lentAfter given values) (givenAs (lengthOf given)) (omega arith) (record { answer = given-as (lengthOf given); list = refl }) in
+      let e = given-as (lengthOf given) in
+      let q = i values (lentAfter given values) (givenAs (lengthOf given)) (omega arith) (record { answer = e; list = refl; numbers = given-numbers (givenAs (lengthOf given)) given e }) in
       values-more m root (length values) room (just-list given values (q .0) (q .1)) fits
 
   both-given : (message : List ℕ) (handles : ℕ) (values objects : List ℕ) → IsReadBothAs rows members root message handles values objects
@@ -138,15 +141,17 @@ module _ (rows members : List ℕ) (root : ℕ) where
   both-given message handles values objects i =
       let m = Doing.message (typeTable rows members) message handles in
       let given = Rules.read m root (length values) (length objects) in
+      let e = reading-as (lengthsOf given) in
       let q = i values (lentAfter (valuesIn given) values) objects (lentAfter (objectsIn given) objects) (readingAs (lengthsOf given)) (omega arith) (omega arith)
-      (record { answer = reading-as (lengthsOf given); values-list = refl; objects-list = refl }) in
+      (record { answer = e; values-list = refl; objects-list = refl; numbers = reading-numbers (readingAs (lengthsOf given)) given e }) in
       let each = each-of m root (length values) (length objects) (just-lists given values objects (q .0) (q .1) (q .2)) in
       (λ room fits. values-more m root (length values) room (each .values) fits, λ room fits. objects-more m root (length objects) room (each .objects) fits)
 
   is-written-to : (message : List ℕ) (handles : ℕ) (values : List ℕ) → IsWrittenAs rows members root values message handles → IsWrittenTo table root values message handles
   is-written-to message handles values i room fits =
       let given = Rules.write table root values (length message) in
-      let q = i message (outputAfter given message) (writtenAs (sizesOf given)) (omega arith) (record { answer = written-as (sizesOf given); output = refl }) in
+      let e = written-as (sizesOf given) in
+      let q = i message (outputAfter given message) (writtenAs (sizesOf given)) (omega arith) (record { answer = e; output = refl; numbers = written-numbers (writtenAs (sizesOf given)) given e }) in
       write-more table root values (length message) room (just-message given message handles (q .0) (q .1)) fits
 
   -- ---- demands 2 and 3

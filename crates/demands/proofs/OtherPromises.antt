@@ -33,7 +33,7 @@ module _ (κs : Lfts 4) (a : Dens κs prepare-kinds.ps) where
 
   pub prepare-promises : (r : resT prepare-kinds.r κs .Denot) (s : AtExit (endedOf 4 prepare-kinds.ps prepare-kinds.r) κs) → prepare.Learnt κs a r s
       → Prepares (now (a .0)) (now (a .1 .0)) (now (a .1 .1 .0)) (now (s .1 .1 .0)) (now (a .1 .1 .1 .0)) (now (s .1 .1 .1 .0)) r
-  prepare-promises r s l = record { answer = l .0; sizes-list = l .1 .0; alignments-list = l .1 .1 }
+  prepare-promises r s l = record { answer = l .0; sizes-list = l .1 .0; alignments-list = l .1 .1 .0; numbers = l .1 .1 .1 }
 
 module _ (κs : Lfts 2) (a : Dens κs layout-kinds.ps) where
   pub layout-of-asks-nothing : layout.Asked κs a
@@ -41,7 +41,7 @@ module _ (κs : Lfts 2) (a : Dens κs layout-kinds.ps) where
 
   pub layout-of-promises : (r : resT layout-kinds.r κs .Denot) (s : AtExit (endedOf 2 layout-kinds.ps layout-kinds.r) κs) → layout.Learnt κs a r s
       → LaysOut (now (a .0)) (now (a .1 .0)) (a .1 .1 .0) r
-  layout-of-promises r s l = record { answer = l }
+  layout-of-promises r s l = record { answer = l .0; numbers = l .1 }
 
 module _ (κs : Lfts 1) (a : Dens κs root-kinds.ps) where
   pub root-allowed-asks-nothing : root.Asked κs a
@@ -57,7 +57,7 @@ module _ (κs : Lfts 1) (a : Dens κs header-kinds.ps) where
 
   pub read-header-promises : (r : resT header-kinds.r κs .Denot) (s : AtExit (endedOf 1 header-kinds.ps header-kinds.r) κs) → header.Learnt κs a r s
       → ReadsHeader (now (a .0)) r
-  read-header-promises r s l = record { answer = l }
+  read-header-promises r s l = record { answer = l .0; numbers = l .1 }
 
 module _ (κs : Lfts 1) (a : Dens κs body-kinds.ps) where
   pub body-asks-nothing : body.Asked κs a
@@ -73,7 +73,7 @@ module _ (κs : Lfts 1) (a : Dens κs write-kinds.ps) where
 
   pub write-header-promises : (r : resT write-kinds.r κs .Denot) (s : AtExit (endedOf 1 write-kinds.ps write-kinds.r) κs) → write.Learnt κs a r s
       → WritesHeader (a .0) (now (a .1 .0)) (now (s .1 .0)) r
-  write-header-promises r s l = record { answer = l .0; output = l .1 }
+  write-header-promises r s l = record { answer = l .0; output = l .1 .0; numbers = l .1 .1 }
 
 module _ (κs : Lfts 1) (a : Dens κs bytes-kinds.ps) where
   pub is-utf8-asks-nothing : bytes.Asked κs a

@@ -11,7 +11,7 @@ use Rattle.rules.specs.Bytes.{part}
 use Rattle.rules.specs.TypeTable.{typeTable}
 use Rattle.rules.specs.Sound.{soundness}
 use Rattle.rules.specs.Text.{isUtf8}
-use Rattle.rules.specs.Answers.{layoutAnswer, outputAfter}
+use Rattle.rules.specs.Answers.{layoutAnswer, outputAfter, numbersOf, nothing, laid, counted}
 use Rattle.rules.specs.Header as Rules
 use Rattle.layout.specs.declared.Soundness.{Soundness}
 use Rattle.layout.specs.declared.LayoutAnswer.{LayoutAnswer}
@@ -30,10 +30,12 @@ pub record Prepares (rows members sizes sizes′ alignments alignments′ : List
   pub answer : Layout.verdictOf r ≡ soundness (typeTable rows members)
   pub sizes-list : sizes′ ≡ Layout.givenIfSound (typeTable rows members) (Layout.keptSizes (typeTable rows members)) sizes
   pub alignments-list : alignments′ ≡ Layout.givenIfSound (typeTable rows members) (Layout.keptAlignments (typeTable rows members)) alignments
+  pub numbers : Layout.verdictNumbers r ≡ numbersOf 0 nothing (soundness (typeTable rows members))
 
 -- layout::layout_of
 pub record LaysOut (rows members : List ℕ) (row : ℕ) (r : LayoutAnswer) : Type 0 where
   pub answer : Layout.answerOf r ≡ layoutAnswer (typeTable rows members) row
+  pub numbers : Layout.answerNumbers r ≡ numbersOf 2 laid (layoutAnswer (typeTable rows members) row)
 
 -- layout::root_allowed
 pub record AllowsRoot (rows : List ℕ) (root : ℕ) (r : Bool) : Type 0 where
@@ -42,6 +44,7 @@ pub record AllowsRoot (rows : List ℕ) (root : ℕ) (r : Bool) : Type 0 where
 -- header::read_header
 pub record ReadsHeader (message : List ℕ) (r : HeaderAnswer) : Type 0 where
   pub answer : Meaning.answerOf r ≡ Rules.readHeader message
+  pub numbers : Meaning.answerNumbers r ≡ numbersOf 5 Rules.fields (Rules.readHeader message)
 
 -- header::body: the part that is handed back, and by block and offset where message and part start
 pub record HandsBody (message : List ℕ) (at : ℕ × ℕ) (body : List ℕ) (body-at : ℕ × ℕ) : Type 0 where
@@ -52,6 +55,7 @@ pub record HandsBody (message : List ℕ) (at : ℕ × ℕ) (body : List ℕ) (b
 pub record WritesHeader (header : Header) (out out′ : List ℕ) (r : HeaderWritten) : Type 0 where
   pub answer : Meaning.writtenOf r ≡ Meaning.byteCount (Rules.writeHeader (Meaning.headerOf header) (length out))
   pub output : out′ ≡ lentAfter (Rules.writeHeader (Meaning.headerOf header) (length out)) out
+  pub numbers : Meaning.writtenNumbers r ≡ numbersOf 1 counted (Rules.writeHeader (Meaning.headerOf header) (length out))
 
 -- text::is_utf8
 pub record IsText (bytes : List ℕ) (at count : ℕ) (r : Bool) : Type 0 where

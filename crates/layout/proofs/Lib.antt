@@ -5,6 +5,7 @@ pub mod Elements
 pub mod Members
 pub mod Keeping
 pub mod Climbing
+pub mod Numbers
 pub mod Roots
 pub mod ByKind
 pub mod Below

@@ -6,10 +6,11 @@ use mathlib.Core.Path.{_≡_}
 use Prim.Native.Nat.{ℕ, zero, suc}
 use lib.Dec.{ltb}
 use Rattle.rules.specs.declared.Layout.{Layout}
-use Rattle.rules.specs.Refusals.{Answer, accepted, refused, if_then_else_}
+use Rattle.rules.specs.Refusals.{placeNumber, Answer, accepted, refused, if_then_else_}
 use Rattle.rules.specs.TypeTable.{TypeTable, rowCount}
 use Rattle.rules.specs.Sizes.{layoutOf}
 use Rattle.rules.specs.Sound.{soundness, rootAllowed}
+use Rattle.rules.specs.Answers.{Numbers}
 use Rattle.layout.specs.declared.Soundness.{Soundness}
 use Rattle.layout.specs.declared.Soundness.the-variants as S
 use Rattle.layout.specs.declared.LayoutAnswer.{LayoutAnswer}
@@ -20,10 +21,20 @@ abbrev pub verdictOf : Soundness → Answer (Unit {0})
 verdictOf S.Sound = accepted tt
 verdictOf (S.Refused f) = refused f
 
+-- Document 01's number, place and values of each case.
+abbrev pub verdictNumbers : Soundness → Numbers
+verdictNumbers S.Sound = record { number = 0; place = 0; values = [] }
+verdictNumbers (S.Refused f) = record { number = f .number; place = placeNumber (f .place); values = [] }
+
 -- What the layout calculator answers: the layout, or 1 or 2.
 abbrev pub answerOf : LayoutAnswer → Answer Layout
 answerOf (L.Laid l) = accepted l
 answerOf (L.Refused f) = refused f
+
+-- Document 01's number, place and values of each case.
+abbrev pub answerNumbers : LayoutAnswer → Numbers
+answerNumbers (L.Laid l) = record { number = 0; place = 0; values = l .size ∷ l .alignment ∷ [] }
+answerNumbers (L.Refused f) = record { number = f .number; place = placeNumber (f .place); values = 0 ∷ 0 ∷ [] }
 
 -- A root is allowed by the rows alone: under every type table that has them.
 abbrev pub RootIs : (rows : List ℕ) (root : ℕ) → Bool → Type 0

@@ -13,8 +13,8 @@ use rules::Place;
 ghost use mathlib.Core.Path.{_≡_};
 ghost use Rattle.rules.specs.TypeTable.{typeTable};
 ghost use Rattle.rules.specs.Sound.{soundness};
-ghost use Rattle.rules.specs.Answers.{layoutAnswer};
-ghost use Rattle.layout.specs.Answers.{verdictOf, answerOf, RootIs, keptSizes, keptAlignments, givenIfSound};
+ghost use Rattle.rules.specs.Answers.{layoutAnswer, numbersOf, nothing, laid};
+ghost use Rattle.layout.specs.Answers.{verdictOf, verdictNumbers, answerOf, answerNumbers, RootIs, keptSizes, keptAlignments, givenIfSound};
 
 // The verdict on a type table: sound, or refused with 1.
 pub enum Soundness {
@@ -43,6 +43,7 @@ pub fn prepare(
     ensures alignments { λ _.
         let t = typeTable (now (rows .entry)) (now (members .entry)) in
         ⌜ now (alignments .exit) ≡ givenIfSound t (keptAlignments t) (now (alignments .entry)) ⌝ }
+    ensures numbers { λ r. ⌜ verdictNumbers r ≡ numbersOf 0 nothing (soundness (typeTable (now (rows .entry)) (now (members .entry)))) ⌝ }
 {
     let mut own_sizes = [0u32; 256];
     let mut own_alignments = [0u32; 256];
@@ -57,7 +58,8 @@ pub fn prepare(
 
 // The layout of a row; 1, then 2 for a row that does not exist.
 pub fn layout_of(rows: &[u32], members: &[u32], row: u32) -> LayoutAnswer
-    ensures { λ r. ⌜ answerOf r ≡ layoutAnswer (typeTable (now (rows .entry)) (now (members .entry))) row ⌝ }
+    ensures answer { λ r. ⌜ answerOf r ≡ layoutAnswer (typeTable (now (rows .entry)) (now (members .entry))) row ⌝ }
+    ensures numbers { λ r. ⌜ answerNumbers r ≡ numbersOf 2 laid (layoutAnswer (typeTable (now (rows .entry)) (now (members .entry))) row) ⌝ }
 {
     let mut sizes = [0u32; 256];
     let mut alignments = [0u32; 256];

@@ -1,3 +1,4 @@
+pub mod Numbers
 pub mod Roots
 pub mod Passes
 pub mod Judging

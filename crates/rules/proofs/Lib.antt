@@ -14,5 +14,6 @@ pub mod Events
 pub mod WalkEvents
 pub mod Demands
 pub mod Rooms
+pub mod Numbers
 pub mod Edition
 pub mod Amounts

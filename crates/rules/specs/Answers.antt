@@ -6,7 +6,8 @@ use lib.Dec.{leb, ltb, eqb}
 use lib.ListN.{length}
 use Rattle.rules.specs.declared.Place.the-variants.{Byte, Index, Amount}
 use Rattle.rules.specs.declared.Layout.{Layout}
-use Rattle.rules.specs.Refusals.{fault, messageTooLong, tooManyHandles, bytesLeft, handlesLeft, roomTooSmall, notAValue, Answer, accepted, refused, require, andThen, lentAfter}
+use Rattle.rules.specs.Refusals.{fault, placeNumber, messageTooLong, tooManyHandles, bytesLeft, handlesLeft, roomTooSmall, notAValue, Answer, accepted, refused, require, andThen, lentAfter}
+use Rattle.rules.specs.Bytes.{zeros}
 use Rattle.rules.specs.TypeTable.{TypeTable, rowCount}
 use Rattle.rules.specs.Sizes.{layoutOf, sizeOf}
 use Rattle.rules.specs.Sound.{soundness, rootAllowed, requireRow}
@@ -112,3 +113,36 @@ outputAfter answer output = lentAfter (andThen answer (λ w. accepted (w .bytes)
 -- "The layout calculator answers size and alignment of any row; it refuses with 1, then 2 for a row that doesn't exist, place that row."
 unfoldable pub layoutAnswer : TypeTable → (row : ℕ) → Answer Layout
 layoutAnswer t row = andThen (soundness t) (λ sound. requireRow (ltb row (rowCount t)) row (accepted (layoutOf t row)))
+
+-- ---- the numbers answered
+
+-- What an operation answers in document 01's numbers: number and place, and the other numbers, its values.
+pub record Numbers : Type 0 where
+  pub number : ℕ
+  pub place : ℕ
+  pub values : List ℕ
+
+-- "An accepted answer is 0, place 0. A refusal gives number and place, and its place names what was judged; other numbers answered are 0."
+abbrev pub numbersOf : {A : Type 0} (count : ℕ) (values : A → List ℕ) → Answer A → Numbers
+numbersOf count values (accepted a) = record { number = 0; place = 0; values = values a }
+numbersOf count values (refused f) = record { number = f .number; place = placeNumber (f .place); values = zeros count }
+
+-- The values: of the checker none,
+abbrev pub nothing : Unit {0} → List ℕ
+nothing u = []
+
+-- of the layout calculator size and alignment,
+abbrev pub laid : Layout → List ℕ
+laid l = l .size ∷ l .alignment ∷ []
+
+-- of a list how many numbers it has,
+abbrev pub counted : List ℕ → List ℕ
+counted list = length list ∷ []
+
+-- and of both lists,
+abbrev pub bothCounted : Lists → List ℕ
+bothCounted lists = length (lists .values) ∷ length (lists .objects) ∷ []
+
+-- of the writer "the byte and handle counts".
+abbrev pub sized : Written → List ℕ
+sized w = length (w .bytes) ∷ w .handles ∷ []

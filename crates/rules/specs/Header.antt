@@ -53,3 +53,7 @@ headerBytes h = bytesOf 4 (h .transaction) ++ (h .flags ++ (1 ∷ bytesOf 8 (h .
 -- "The header writer gives 24, 25 and 22." It writes 16 bytes.
 unfoldable pub writeHeader : Header → (room : ℕ) → Answer (List ℕ)
 writeHeader h room = requireOrdinal h (requireRoom 16 room (accepted (headerBytes h)))
+
+-- The values that the reader answers: a header's fields in order.
+abbrev pub fields : Header → List ℕ
+fields h = h .transaction ∷ (h .flags ++ (h .ordinal ∷ []))

@@ -13,7 +13,7 @@ use Rattle.rules.specs.Refusals.{fault, rootNotAllowed, roomTooSmall, Answer, a
 use Rattle.rules.specs.TypeTable.{TypeTable, eightByteEnvelopes, typeTable}
 use Rattle.rules.specs.Sound.{soundness, rootAllowed}
 use Rattle.rules.specs.Answers as Rules
-use Rattle.rules.specs.Answers.{encode, closed, written, write, requireRoom, outputAfter}
+use Rattle.rules.specs.Answers.{encode, closed, written, write, requireRoom, outputAfter, numbersOf, sized}
 use Rattle.rules.proofs.Rooms.{room-short, room-enough, stored-list}
 use Rattle.layout.specs.declared.Soundness.{Soundness}
 use Rattle.layout.specs.declared.Soundness.the-variants as Table
@@ -25,8 +25,9 @@ use Rattle.layout.specs.Ready.{Ready}
 use Rattle.writer.specs.declared.Sizes.{Sizes}
 use Rattle.writer.specs.declared.Written.{Written}
 use Rattle.writer.specs.declared.Written.the-variants.{Accepted, Refused}
-use Rattle.writer.specs.Answers.{writtenOf, sizesOf}
+use Rattle.writer.specs.Answers.{writtenOf, writtenNumbers, sizesOf}
 use Rattle.writer.specs.Passing.{Passed}
+use Rattle.writer.proofs.Numbers.{written-numbers}
 
 -- ---- measured
 
@@ -94,21 +95,24 @@ pub lent-long : (count : ℕ) (out : List ℕ) → count ≤ length out → coun
 lent-long count out fits = sym (length-take-le count out fits)
 
 -- What is answered, and what the output holds after.
-abbrev pub Gives : (given : Answer Rules.Written) (lent : List ℕ) (answer : Answer Sizes) (after : List ℕ) → Type 0
-Gives given lent answer after = (answer ≡ sizesOf given) × (after ≡ outputAfter given lent)
+abbrev pub Gives : (given : Answer Rules.Written) (lent : List ℕ) → Written → (after : List ℕ) → Type 0
+Gives given lent r after = (writtenOf r ≡ sizesOf given) × ((after ≡ outputAfter given lent) × (writtenNumbers r ≡ numbersOf 2 sized given))
 
-gives-nothing : {given : Answer Rules.Written} {f : Fault} (lent : List ℕ) → given ≡ refused f → Gives given lent (refused f) lent
-gives-nothing lent e = (rw e, rw e)
+gives : (given : Answer Rules.Written) (lent : List ℕ) (r : Written) {after : List ℕ} → writtenOf r ≡ sizesOf given → after ≡ outputAfter given lent → Gives given lent r after
+gives given lent r e left = (e, (left, written-numbers r given e))
+
+gives-nothing : {given : Answer Rules.Written} {f : Fault} (lent : List ℕ) → given ≡ refused f → Gives given lent (Refused f) lent
+gives-nothing {given} {f} lent e = gives given lent (Refused f) (rw e) (rw e)
 
 module _ (t : TypeTable) (values : List ℕ) (root : ℕ) (a : Written) (j : Measures t values root (writtenOf a)) where
-  pub write-refused : {f : Fault} (out : List ℕ) → a ≡ Refused f → Gives (write t root values (length out)) out (refused f) out
+  pub write-refused : {f : Fault} (out : List ℕ) → a ≡ Refused f → Gives (write t root values (length out)) out (Refused f) out
   unfolding write
   write-refused {f} out e = go (written t root values) (sym (ap writtenOf e) ∙ j)
     where
       go : (w : Answer Rules.Written) → refused f ≡ sizesOf w
-          → Gives (andThen w (λ m. requireRoom (length (m .bytes)) (length out) (accepted m))) out (refused f) out
+          → Gives (andThen w (λ m. requireRoom (length (m .bytes)) (length out) (accepted m))) out (Refused f) out
       go (accepted m) q = absurd (let z : _≡_ {A = ℕ} 0 1 = cc in omega arith)
-      go (refused g) q = (q, refl)
+      go (refused g) q = gives (refused g) out (Refused f) q refl
 
   module _ {needed : Sizes} (e : a ≡ Accepted needed) where
     as-held : Held t root values needed
@@ -141,7 +145,7 @@ module _ (t : TypeTable) (values : List ℕ) (root : ℕ) (a : Written) (j : Mea
 
     -- 22
     pub write-room : (out : List ℕ) → length out < needed .bytes
-        → Gives (write t root values (length out)) out (refused (fault roomTooSmall (Amount (needed .bytes)))) out
+        → Gives (write t root values (length out)) out (Refused (fault roomTooSmall (Amount (needed .bytes)))) out
     write-room out short = gives-nothing out (write-of (length out) ∙ room-short (length out) _ as-long short)
 
     -- The part of the output that is lent holds the message and nothing more.
@@ -156,7 +160,8 @@ module _ (t : TypeTable) (values : List ℕ) (root : ℕ) (a : Written) (j : Mea
         ∙ rw (drop-of-length-le (take (needed .bytes) out) none-left, append-nil)
 
     pub write-stored : (out : List ℕ) {part : List ℕ} {r : Written} → Passed t values root (take (needed .bytes) out) part r → needed .bytes ≤ length out
-        → Gives (write t root values (length out)) out (accepted needed) (part ++ drop (needed .bytes) out)
+        → Gives (write t root values (length out)) out (Accepted needed) (part ++ drop (needed .bytes) out)
     write-stored out p room =
         let given = write-of (length out) ∙ room-enough (length out) _ as-long room in
-        (rw given (ap accepted (as-held .sizes)), rw (given, part-stored out p room) (ap (λ (n : ℕ). as-held .message .bytes ++ drop n out) as-long))
+        gives (write t root values (length out)) out (Accepted needed) (rw given (ap accepted (as-held .sizes)))
+        (rw (given, part-stored out p room) (ap (λ (n : ℕ). as-held .message .bytes ++ drop n out) as-long))

@@ -9,20 +9,20 @@ use Rattle.demands.proofs.round_trip.Tie as tie
 returns : tie.Need-returns
 returns c =
     let f = c .before in
-    trip-unchecked _ _ _ _ _ (f .before .before .check .result) (f .before .before .check .ensures) (f .f .given .1)
+    trip-unchecked _ _ _ _ _ (f .before .before .check .result) (f .before .before .check .ensures .0) (f .f .given .1)
 
 needed-requires : tie.Need-needed-requires
 needed-requires c κs =
     let told = c .before in
     let checked = told .before .before in
-    passed _ _ _ _ _ (checked .check .result) (checked .check .ensures) (told .enum-told .given .1)
+    passed _ _ _ _ _ (checked .check .result) (checked .check .ensures .0) (told .enum-told .given .1)
 
 returns-2 : tie.Need-returns-2
 returns-2 c =
     let told = c .before .before in
     let checked = told .before .before in
     let start = checked .before .before .before .before .before .before in
-    trip-short _ _ _ _ _ (checked .check .result) (checked .check .ensures) (told .enum-told .given .1)
+    trip-short _ _ _ _ _ (checked .check .result) (checked .check .ensures .0) (told .enum-told .given .1)
     (octets (start .args .message .now) (λ i. omega (arith, checked .before .before .before .shared-slice-known3 .given i))) (omega arith) (c .needed .ensures)
 
 slice-reshare-prefix-back : tie.Need-slice-reshare-prefix-back
@@ -32,7 +32,7 @@ slice-reshare-prefix-back c =
     let told = read .before .before .before in
     let checked = told .before .before in
     let start = checked .before .before .before .before .before .before in
-    read-starts _ _ _ _ _ (checked .check .result) (checked .check .ensures) (told .enum-told .given .1) (start .args .values .now) _ _ (read .read-values .ensures .0) (read .read-values .ensures .1) (count .count .given .1) .within
+    read-starts _ _ _ _ _ (checked .check .result) (checked .check .ensures .0) (told .enum-told .given .1) (start .args .values .now) _ _ (read .read-values .ensures .0) (read .read-values .ensures .1 .0) (count .count .given .1) .within
 
 slice-aggregate-back : tie.Need-slice-aggregate-back
 slice-aggregate-back c =
@@ -41,7 +41,7 @@ slice-aggregate-back c =
     let told = read .before .before .before in
     let checked = told .before .before in
     let start = checked .before .before .before .before .before .before in
-    read-starts _ _ _ _ _ (checked .check .result) (checked .check .ensures) (told .enum-told .given .1) (start .args .values .now) _ _ (read .read-values .ensures .0) (read .read-values .ensures .1) (count .count .given .1) .long
+    read-starts _ _ _ _ _ (checked .check .result) (checked .check .ensures .0) (told .enum-told .given .1) (start .args .values .now) _ _ (read .read-values .ensures .0) (read .read-values .ensures .1 .0) (count .count .given .1) .long
 
 back-requires : tie.Need-back-requires
 back-requires c κs =
@@ -50,7 +50,7 @@ back-requires c κs =
     let told = read .before .before .before in
     let checked = told .before .before in
     let start = checked .before .before .before .before .before .before in (
-      read-written _ _ _ _ _ (checked .check .result) (checked .check .ensures) (told .enum-told .given .1) (start .args .values .now) _ _ (read .read-values .ensures .0) (read .read-values .ensures .1)
+      read-written _ _ _ _ _ (checked .check .result) (checked .check .ensures .0) (told .enum-told .given .1) (start .args .values .now) _ _ (read .read-values .ensures .0) (read .read-values .ensures .1 .0)
           (octets (start .args .message .now) (λ i. omega (arith, checked .before .before .before .shared-slice-known3 .given i))) (count .count .given .1),
       omega arith,
     )
@@ -62,7 +62,7 @@ returns-3 c =
     let told = read .before .before .before in
     let checked = told .before .before in
     let start = checked .before .before .before .before .before .before in
-    trip-unread _ _ _ _ _ (checked .check .result) (checked .check .ensures) (told .enum-told .given .1) (start .args .values .now) _ _ (read .read-values .ensures .0) (read .read-values .ensures .1) (f .f2 .given .1)
+    trip-unread _ _ _ _ _ (checked .check .result) (checked .check .ensures .0) (told .enum-told .given .1) (start .args .values .now) _ _ (read .read-values .ensures .0) (read .read-values .ensures .1 .0) (f .f2 .given .1)
 
 returns-4 : tie.Need-returns-4
 returns-4 c =
@@ -72,7 +72,7 @@ returns-4 c =
     let told = read .before .before .before in
     let checked = told .before .before in
     let start = checked .before .before .before .before .before .before in
-    trip-back _ _ _ _ _ (checked .check .result) (checked .check .ensures) (told .enum-told .given .1) (start .args .values .now) _ _ (read .read-values .ensures .0) (read .read-values .ensures .1) (start .args .out .now) _
+    trip-back _ _ _ _ _ (checked .check .result) (checked .check .ensures .0) (told .enum-told .given .1) (start .args .values .now) _ _ (read .read-values .ensures .0) (read .read-values .ensures .1 .0) (start .args .out .now) _
     (octets (start .args .message .now) (λ i. omega (arith, checked .before .before .before .shared-slice-known3 .given i))) (omega arith) (count .count .given .1) (back .back .ensures)
 
 pub round-trip-spec : {M : Type 1} → statement M

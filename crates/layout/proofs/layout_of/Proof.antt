@@ -9,7 +9,9 @@ use Rattle.rules.specs.Refusals.{accepted}
 use Rattle.rules.specs.TypeTable.{typeTable, rowCount}
 use Rattle.rules.specs.Sound.{soundness}
 use Rattle.rules.specs.Answers.{layoutAnswer}
+use Rattle.layout.specs.declared.LayoutAnswer.the-variants.{Laid, Refused}
 use Rattle.layout.proofs.Keeping.{verdict-sound, verdict-refused, given-sound, kept-layout}
+use Rattle.layout.proofs.Numbers.{answered}
 use Rattle.layout.proofs.layout_of.Statement.{statement}
 use Rattle.layout.proofs.layout_of.Tie as tie
 
@@ -19,7 +21,8 @@ unsound c =
     let a = c .before .before .before .before .before .before .before .before .args in
     let t = typeTable (a .rows .now) (a .members .now) in
     let p = c .before .before .before .climb in
-    rw (verdict-refused t (p .result) (c .before .verdict .given .0 .0) (p .ensures .0) (search needs))
+    let f = c .before .verdict .given .0 .0 in
+    answered (Refused f) (rw (verdict-refused t (p .result) f (p .ensures .0) (search needs)))
 
 sound : (c : tie.After-enum-told)
     → let a = c .before .before .before .before .before .before .before .args in
@@ -35,14 +38,15 @@ laid c =
     let p = c .before .before .before .before .before .before .climb in
     let s = sound (c .before .before .before .before) in
     let in-use : a .row < rowCount t = omega (arith, c .before .before .before .if1 .taken) in
-    rw (s, lt-ltb (a .row) (rowCount t) in-use, c .kept-at .ensures)
-    (ap accepted (kept-layout t s (a .row) in-use (given-sound t _ _ s (p .ensures .1 .0)) (given-sound t _ _ s (p .ensures .1 .1))))
+    answered (Laid (c .kept-at .result))
+    (rw (s, lt-ltb (a .row) (rowCount t) in-use, c .kept-at .ensures)
+    (ap accepted (kept-layout t s (a .row) in-use (given-sound t _ _ s (p .ensures .1 .0)) (given-sound t _ _ s (p .ensures .1 .1)))))
 
 no-row : tie.Need-returns-3
 unfolding layoutAnswer
 no-row c =
     let a = c .before .before .before .before .before .before .before .before .args in
-    rw (sound (c .before), le-ltb (a .row) (rowCount (typeTable (a .rows .now) (a .members .now))) (omega (arith, c .if1 .left)))
+    answered (Refused _) (rw (sound (c .before), le-ltb (a .row) (rowCount (typeTable (a .rows .now) (a .members .now))) (omega (arith, c .if1 .left))))
 
 pub layout-of-spec : {M : Type 1} → statement M
 layout-of-spec =

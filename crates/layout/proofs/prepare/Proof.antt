@@ -2,9 +2,10 @@
 -- Assumes nothing.
 use mathlib.Core.Path.{refl}
 use borrow.Author.Needs.{needs}
-use Rattle.layout.specs.declared.Soundness.the-variants.{Refused}
+use Rattle.layout.specs.declared.Soundness.the-variants.{Sound, Refused}
 use Rattle.layout.proofs.Keeping.{verdict-sound, verdict-refused, given-sound}
 use Rattle.layout.proofs.Climbing.{refused-promised, sound-promised}
+use Rattle.layout.proofs.Numbers.{prepared}
 use Rattle.layout.proofs.prepare.Statement.{statement}
 use Rattle.layout.proofs.prepare.Tie as tie
 
@@ -12,13 +13,13 @@ unsound : tie.Need-returns
 unsound c =
     let v = c .before .before .before .climb in
     let f = c .before .verdict .given .0 .0 in
-    refused-promised _ (Refused f) f refl (verdict-refused _ (v .result) f (v .ensures .0) (search needs)) refl refl
+    prepared _ (Refused f) _ _ (refused-promised _ (Refused f) f refl (verdict-refused _ (v .result) f (v .ensures .0) (search needs)) refl refl)
 
 sound : tie.Need-returns-2
 sound c =
     let v = c .before .before .climb in
     let s = verdict-sound _ (v .result) (v .ensures .0) (search needs) in
-    sound-promised _ _ _ s (given-sound _ _ _ s (v .ensures .1 .0), given-sound _ _ _ s (v .ensures .1 .1))
+    prepared _ Sound _ _ (sound-promised _ _ _ s (given-sound _ _ _ s (v .ensures .1 .0), given-sound _ _ _ s (v .ensures .1 .1)))
 
 pub prepare-spec : {M : Type 1} → statement M
 prepare-spec =
