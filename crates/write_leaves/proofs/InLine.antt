@@ -12,7 +12,7 @@ use mir.Val.{Fits}
 use borrow.Author.Tests.{lt-ltb, le-ltb, le-leb, lt-leb, ne-eqb, eqb-true}
 use lib.Dec.{eqb, leb, ltb}
 use lib.ListN.{length, set, take, drop, getD, length-append, length-drop, drop-of-length-le}
-use lib.Seq.{sets, length-sets, drop-cons}
+use lib.Seq.{sets, drop-cons}
 use Rattle.rules.specs.declared.Place.the-variants.{Index}
 use Rattle.rules.specs.Refusals.{fault, tooManyHandles, notAValue}
 use Rattle.rules.specs.Bytes.{bytesOf, ones32}
@@ -29,8 +29,9 @@ use Rattle.layout.specs.Ready.{widthAllowed}
 use Rattle.write_leaves.specs.declared.cursor.Cursor.{Cursor}
 use Rattle.write_leaves.specs.declared.cursor.Wrote.{Wrote}
 use Rattle.write_leaves.specs.declared.cursor.Wrote.the-variants.{On, Refused}
-use Rattle.write_leaves.specs.Putting.{answer, Stored, Fit, Put, PutsInLine, tookOne, Stands, HandlesTaken}
+use Rattle.write_leaves.specs.Putting.{KeptBefore, answer, Stored, Fit, Put, PutsInLine, tookOne, Stands, HandlesTaken}
 use Rattle.write_leaves.specs.InLine.{boolAs, handleAs, numbersAs, NoneAbove}
+use Rattle.write_leaves.proofs.Kept.{kept-all, kept-sets, kept-then}
 use Rattle.write_leaves.proofs.Results.{after-none, after-after, then-nothing}
 
 -- ---- parts that are done at once
@@ -59,9 +60,15 @@ put-in-line {values} d bytes whole stored s n h i =
       };
     }
 
-pub put-cannot : {values out out′ : List ℕ} {size at base : ℕ} {c : Cursor} (number left index : ℕ) → index ≡ length values - left
+-- A refusal, after stores from the part's place on.
+put-refused : {values out out′ : List ℕ} {size at base : ℕ} {c : Cursor} (number left index : ℕ) → index ≡ length values - left → KeptBefore out out′ at
     → Put values out out′ size at base c (Refused (fault number (Index index))) (cannot number left)
-put-cannot number left index e = record { says = ap (λ (k : ℕ). Refused (fault number (Index k))) e; stored = tt; fit = tt }
+put-refused number left index e kept = record { says = ap (λ (k : ℕ). Refused (fault number (Index k))) e; stored = kept; fit = tt }
+
+-- Before anything was stored.
+pub put-cannot : {values out : List ℕ} {size at base : ℕ} {c : Cursor} (number left index : ℕ) → index ≡ length values - left
+    → Put values out out size at base c (Refused (fault number (Index index))) (cannot number left)
+put-cannot number left index e = put-refused number left index e kept-all
 
 pub nothing-put : {values out : List ℕ} {at : ℕ} {c : Cursor} → Stands values c → PutsInLine values out out 0 at c (On c) E.nothing
 nothing-put {c} s base = put-in-line c [] refl refl s refl (omega arith) (omega arith)
@@ -99,10 +106,10 @@ module _ (write : ℕ → WriteRecord) (continue : ℕ → Encoder) (values : Li
   unfolding E.recordThen
   record-at h = rw (add-one, drop-cons values i 0 h)
 
--- A record, and what it leads to, which writes nothing more in line.
+-- A record, and what it leads to, which writes nothing more in line, and nothing before the record.
 pub after-put : {values out out′ out″ : List ℕ} {size at there base : ℕ} {c : Cursor} {r : Wrote} {e : Encoded} (bytes : List ℕ) → length bytes ≡ size → out′ ≡ sets out at bytes
-    → Put values out′ out″ 0 there base (tookOne c) r e → Put values out out″ size at base c r (E.after bytes [] e)
-after-put {values} {out} {out′} {out″} {size} {at} {there} {base} {c} {r} {e} bytes whole stored p = go e (p .says) (p .stored) (p .fit)
+    → Put values out′ out″ 0 there base (tookOne c) r e → at ≤ there → Put values out out″ size at base c r (E.after bytes [] e)
+after-put {values} {out} {out′} {out″} {size} {at} {there} {base} {c} {r} {e} bytes whole stored p later = go e (p .says) (p .stored) (p .fit)
   where
     go : (e : Encoded) → r ≡ answer (length values) e → Stored out′ out″ there (c .next - base) e → Fit values 0 (tookOne c) e → Put values out out″ size at base c r (E.after bytes [] e)
     go (wrote [] outside n u rest) a s f = record {
@@ -119,23 +126,23 @@ after-put {values} {out} {out′} {out″} {size} {at} {there} {base} {c} {r} {e
       };
     }
     go (wrote (x ∷ inline) outside n u rest) a s f = absurd (omega (arith, f .whole))
-    go (cannot number left) a s f = record { says = a; stored = tt; fit = tt }
+    go (cannot number left) a s f = record { says = a; stored = kept-then there later (kept-sets at bytes (omega arith) stored) s; fit = tt }
 
-module _ {values out out′ : List ℕ} {size at : ℕ} {c : Cursor} (write : ℕ → WriteRecord) (continue : ℕ → Encoder) where
+module _ {values out : List ℕ} {size at : ℕ} {c : Cursor} (write : ℕ → WriteRecord) (continue : ℕ → Encoder) where
   pub record-ended : c .index ≤ length values → length values ≤ c .index
-      → PutsInLine values out out′ size at c (Refused (fault notAValue (Index (c .index)))) (E.recordThen write continue)
+      → PutsInLine values out out size at c (Refused (fault notAValue (Index (c .index)))) (E.recordThen write continue)
   record-ended s h base = rw (record-short write continue values (c .index) (c .next) (c .handles) h) (put-cannot notAValue 0 (c .index) (omega arith))
 
   module _ (v : ℕ) (h : c .index < length values) (read : v ≡ getD values (c .index) 0) where
-    pub record-unfit : write v ≡ unfit → PutsInLine values out out′ size at c (Refused (fault notAValue (Index (c .index)))) (E.recordThen write continue)
+    pub record-unfit : write v ≡ unfit → PutsInLine values out out size at c (Refused (fault notAValue (Index (c .index)))) (E.recordThen write continue)
     record-unfit w base =
         rw (record-at write continue values (c .index) (c .next) (c .handles) h, ← read, w)
         (put-cannot notAValue (suc (length (drop (c .index + 1) values))) (c .index) (omega (arith, length-drop (c .index + 1) values)))
 
-    pub record-put : {r : Wrote} (bytes : List ℕ) → write v ≡ put bytes → length bytes ≡ size → out′ ≡ sets out at bytes → PutsInLine values out′ out′ 0 at (tookOne c) r (continue v)
+    pub record-put : {out′ : List ℕ} {r : Wrote} (bytes : List ℕ) → write v ≡ put bytes → length bytes ≡ size → out′ ≡ sets out at bytes → PutsInLine values out′ out′ 0 at (tookOne c) r (continue v)
         → PutsInLine values out out′ size at c r (E.recordThen write continue)
     record-put bytes w whole stored p base =
-        rw (record-at write continue values (c .index) (c .next) (c .handles) h, ← read, w) (after-put bytes whole stored (p base))
+        rw (record-at write continue values (c .index) (c .next) (c .handles) h, ← read, w) (after-put bytes whole stored (p base) (omega arith))
 
 pub took-stands : {values : List ℕ} {c : Cursor} → Stands values c → c .index < length values → Stands values (tookOne c)
 took-stands s h = record { free = s .free; held = s .held; left = omega arith }
@@ -338,8 +345,11 @@ run-none values before width count at c s = record {
     from n j e f = rw (e, f) (sym (after-none (words width 0 count (drop (c .index) values) (c .next) (c .handles))))
 
 module _ (values before : List ℕ) (width count at : ℕ) (c : Cursor) (out : List ℕ) (i p : ℕ) (run : Run values before width count at c out i p) where
+  kept : KeptBefore before out at
+  kept = kept-sets at (run .bytes) (omega arith) (run .stored)
+
   pub run-length : length out ≡ length before
-  run-length = ap length (run .stored) ∙ simp length-sets
+  run-length = kept .long
 
   pub run-all : {d : Cursor} → count ≤ i → Stands values c → d ≡ record { next = c .next; handles = c .handles; index = c .index + count }
       → PutsInLine values before out (count * width) at c (On d) (numbersAs width count)
@@ -375,7 +385,7 @@ module _ (values before : List ℕ) (width count at : ℕ) (c : Cursor) (out : L
 
     pub run-ended : {r : Wrote} → length values ≤ c .index + i → r ≡ Refused (fault notAValue (Index (c .index + i)))
         → PutsInLine values before out (count * width) at c r (numbersAs width count)
-    run-ended h e base = rw (e, halted notAValue 0 (word-short width values (c .index + i) (c .next) (c .handles) h)) (put-cannot notAValue 0 (c .index + i) (omega (arith, run .reached)))
+    run-ended h e base = rw (e, halted notAValue 0 (word-short width values (c .index + i) (c .next) (c .handles) h)) (put-refused notAValue 0 (c .index + i) (omega (arith, run .reached)) kept)
 
     module _ {v : ℕ} (h : c .index + i < length values) (read : v ≡ getD values (c .index + i) 0) where
       pub run-large : (most : ℕ) {r : Wrote} → most + 1 ≡ 256 ^ width → most < v → r ≡ Refused (fault notAValue (Index (c .index + i)))
@@ -383,7 +393,7 @@ module _ (values before : List ℕ) (width count at : ℕ) (c : Cursor) (out : L
       run-large most l k e base =
           let g : 256 ^ width ≤ v = omega arith in
           rw (e, halted notAValue (suc (length (drop (c .index + i + 1) values))) (word-large width values (c .index + i) (c .next) (c .handles) v h read g))
-          (put-cannot notAValue (suc (length (drop (c .index + i + 1) values))) (c .index + i) (omega (arith, length-drop (c .index + i + 1) values)))
+          (put-refused notAValue (suc (length (drop (c .index + i + 1) values))) (c .index + i) (omega (arith, length-drop (c .index + i + 1) values)) kept)
 
       pub run-more : (most : ℕ) {out′ : List ℕ} → most + 1 ≡ 256 ^ width → v ≤ most → out′ ≡ sets out p (bytesOf width v) → Run values before width count at c out′ (i + 1) (p + width)
       unfolding E.elements E.sequence

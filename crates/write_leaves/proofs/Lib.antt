@@ -1,3 +1,4 @@
+pub mod Kept
 pub mod Together
 pub mod Results
 pub mod InLine

@@ -13,7 +13,8 @@ use Rattle.words.proofs.Stores.{sets-append, sets-comm}
 use Rattle.write_leaves.specs.declared.cursor.Cursor.{Cursor}
 use Rattle.write_leaves.specs.declared.cursor.Wrote.{Wrote}
 use Rattle.write_leaves.specs.declared.cursor.Wrote.the-variants.{On, Refused}
-use Rattle.write_leaves.specs.Putting.{answer, Stored, Fits, Fit, Put, Puts}
+use Rattle.write_leaves.specs.Putting.{KeptBefore, answer, Stored, Fits, Fit, Put, Puts}
+use Rattle.write_leaves.proofs.Kept.{kept-sets, kept-then}
 
 -- Two parts, each with its bytes in line and its objects: all that stands in line comes before all objects.
 both-stored : (out : List ℕ) (at free : ℕ) (i o j p : List ℕ) → at + (length i + length j) ≤ free
@@ -48,7 +49,9 @@ put-then {values} {out} {out′} {out″} {first} {second} {at} {base} {c} {d} {
             left = f .left;
           };
         }
-    rest-put i o n u rest b s (cannot number left) a t f = record { says = a; stored = tt; fit = tt }
+    rest-put i o n u rest b s (cannot number left) a t f =
+        let first-kept : KeptBefore out out′ at = kept-then (c .next - base) (omega (arith, z)) (kept-sets at i (omega arith) refl) (kept-sets (c .next - base) o (omega arith) s) in
+        record { says = a; stored = kept-then (at + first) (omega arith) first-kept t; fit = tt }
 
     go : (e : Encoded) → On d ≡ answer (length values) e → Stored out out′ at (c .next - base) e → Fit values first c e → Put values out out″ (first + second) at base c r (E.andThen e k)
     go (wrote i o n u rest) a s f =
@@ -60,8 +63,8 @@ put-then {values} {out} {out′} {out″} {first} {second} {at} {base} {c} {d} {
 -- A part that was refused, whatever was to follow.
 pub put-halt : {values out out′ : List ℕ} {size at base : ℕ} (whole : ℕ) {c : Cursor} {f : Fault} {e : Encoded} (k : Encoder)
     → Put values out out′ size at base c (Refused f) e → Put values out out′ whole at base c (Refused f) (E.andThen e k)
-put-halt {values} {out} {out′} {size} {at} {base} whole {c} {f} {e} k p = go e (p .says)
+put-halt {values} {out} {out′} {size} {at} {base} whole {c} {f} {e} k p = go e (p .says) (p .stored)
   where
-    go : (e : Encoded) → Refused f ≡ answer (length values) e → Put values out out′ whole at base c (Refused f) (E.andThen e k)
-    go (wrote i o n u rest) a = absurd (let w : _≡_ {A = ℕ} 0 1 = cc in omega arith)
-    go (cannot number left) a = record { says = a; stored = tt; fit = tt }
+    go : (e : Encoded) → Refused f ≡ answer (length values) e → Stored out out′ at (c .next - base) e → Put values out out′ whole at base c (Refused f) (E.andThen e k)
+    go (wrote i o n u rest) a s = absurd (let w : _≡_ {A = ℕ} 0 1 = cc in omega arith)
+    go (cannot number left) a s = record { says = a; stored = s; fit = tt }

@@ -3,7 +3,7 @@
 use mathlib.Core.List.{List}
 use mathlib.Core.Path.{_≡_}
 use Prim.Native.Nat.{ℕ, _+_, _-_, _≤_}
-use lib.ListN.{length, drop}
+use lib.ListN.{length, take, drop}
 use lib.Seq.{sets}
 use Rattle.rules.specs.declared.Place.the-variants.{Index}
 use Rattle.rules.specs.Refusals.{fault}
@@ -18,11 +18,16 @@ abbrev pub answer : (total : ℕ) → Encoded → Wrote
 answer total (wrote inline outside next used rest) = On (record { next = next; handles = used; index = total - length rest })
 answer total (cannot number left) = Refused (fault number (Index (total - left)))
 
--- The output after it: what stands in line from `at` on, and the objects claimed from `free` on. What a part that was refused
--- leaves there is not said: nothing was lent then.
+-- Of an output that was stored in from a place on: it is as long as before, and nothing before the place changes.
+pub record KeptBefore (out out′ : List ℕ) (at : ℕ) : Type 0 where
+  pub long : length out′ ≡ length out
+  pub same : take at out′ ≡ take at out
+
+-- The output after it: what stands in line from `at` on, and the objects claimed from `free` on. A part that was refused may have
+-- stored anything from its own place on, and nothing before.
 abbrev pub Stored : (out out′ : List ℕ) (at free : ℕ) → Encoded → Type 0
 Stored out out′ at free (wrote inline outside next used rest) = out′ ≡ sets (sets out at inline) free outside
-Stored out out′ at free (cannot number left) = Unit {0}
+Stored out out′ at free (cannot number left) = KeptBefore out out′ at
 
 -- What holds of a part that was written in `size` bytes in line.
 pub record Fits (values : List ℕ) (size : ℕ) (c : Cursor) (inline outside : List ℕ) (next used : ℕ) (rest : List ℕ) : Type 0 where

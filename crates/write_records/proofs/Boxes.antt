@@ -55,5 +55,5 @@ module _ (values out : List ℕ) (depth at : ℕ) (c : Cursor) (size : ℕ) (s :
     box-opened {out′} r k z stored e p t element base sized ask =
         let one : v ≡ 1 = omega arith in
         let q : DeeperOpens depth size (tookOne c) r = rw e at p in
-        record-opens values out out′ 8 at base c (writePresence 8 ones64 true) (R.afterBox t (R.levels t depth) element) 1 h (sym one ∙ read) (bytesOf 8 ones64) writes-present (length-bytesOf 8 ones64) stored at
+        record-opens values out out′ 8 at base c (writePresence 8 ones64 true) (R.afterBox t (R.levels t depth) element) 1 h (sym one ∙ read) (bytesOf 8 ones64) writes-present (length-bytesOf 8 ones64) stored
         (λ x. size) (λ x. R.encodeRow t (R.levels t (depth - 1)) element) r (rw sized (q t values out′ at base (λ rows b. rows element) (ask-took ask h)))

@@ -15,6 +15,7 @@ use Rattle.write_leaves.specs.declared.cursor.Cursor.{Cursor}
 use Rattle.write_leaves.specs.declared.cursor.Wrote.{Wrote}
 use Rattle.write_leaves.specs.Putting.{answer, Stored, Fits, Fit, Put}
 use Rattle.write_records.specs.Opening.{opened}
+use Rattle.write_leaves.proofs.Kept.{kept-sets, kept-then}
 
 -- The fill may come after all objects within.
 pub object-stored : (out : List ℕ) (free whole : ℕ) (inline fill outside : List ℕ) → length inline + length fill ≡ whole
@@ -60,4 +61,4 @@ object-filled {values} {out} {out′} {out″} {size} {c} {r} {e} p z = go e (p 
             left = f .left;
           };
         }
-    go (cannot number left) a s f = record { says = a; stored = tt; fit = tt }
+    go (cannot number left) a s f = record { says = a; stored = kept-then 0 (omega arith) s (kept-sets size (zeros (padded size - size)) (omega arith) z); fit = tt }

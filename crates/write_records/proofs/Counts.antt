@@ -107,7 +107,7 @@ module _ (values out : List ℕ) (depth at : ℕ) (c : Cursor) (size largest opt
           let went : DeeperOpens depth ((v - 1) * size) (tookOne c) r = rw e at opens in
           let left : ℕ → Encoder = λ n. fields n (R.encodeRow t (R.levels t (depth - 1))) (R.levels t (depth - 1)) in
           record-opens values out whole 16 at base c (writeCount (eqb optional 1) largest) (afterCount (R.levels t depth) size fields) (suc (v - 1)) h (sym next ∙ read)
-          (countBytes (v - 1) ones64) (writes-count (eqb optional 1) largest (v - 1) k f) (count-length (v - 1) ones64) (count-stored out at (v - 1) ones64 p q) at
+          (countBytes (v - 1) ones64) (writes-count (eqb optional 1) largest (v - 1) k f) (count-length (v - 1) ones64) (count-stored out at (v - 1) ones64 p q)
           (λ x. x .count * size) (λ x. left (x .count)) r
           (opens-same values whole whole 0 at base (tookOne c) _ (v - 1) (λ x m. rw m) (λ x m. ap left (sym m)) r has (went t values whole at base (fields (v - 1)) (ask-took ask h)))
 

@@ -12,9 +12,9 @@ use Rattle.rules.proofs.Bytes.{padded-above, padded-multiple}
 use Rattle.write_leaves.specs.declared.cursor.Cursor.{Cursor}
 use Rattle.write_leaves.specs.declared.cursor.Wrote.{Wrote}
 use Rattle.write_records.specs.declared.records.Opening.{Opening}
-use Rattle.write_leaves.specs.Putting.{answer, Stored, Fit, Put, Puts, Ask}
+use Rattle.write_leaves.specs.Putting.{KeptBefore, answer, Stored, Fit, Put, Puts, Ask}
 use Rattle.write_records.specs.Opening.{opened, claimedFrom, Claimed, ObjectPut}
-use Rattle.write_records.proofs.Parts.{rest-lent}
+use Rattle.write_records.proofs.Parts.{rest-lent, rest-long, rest-same}
 use Rattle.write_records.proofs.Claims.{object-filled}
 use Rattle.write_records.proofs.Openings.{padded-is}
 
@@ -42,7 +42,7 @@ filled-up out size s = let fill : (8 - size % 8) % 8 ≡ padded size - size = om
 -- What was put in the rest of the output, from the next free byte on, was put in the output.
 rest-put : {values out part′ : List ℕ} {from base : ℕ} {c : Cursor} {r : Wrote} {e : Encoded} → from ≡ min (c .next - base) (length out)
     → Put values (take (length out - from) (drop from out)) part′ 0 0 (c .next) c r e
-    → Put values out (take from out ++ (part′ ++ drop (length out - from) (drop from out))) 0 0 base c r e
+    → Put values out (take from out ++ (part′ ++ drop (length out - from) (drop from out))) 0 (c .next - base) base c r e
 rest-put {values} {out} {part′} {from} {base} {c} {r} {e} least p = go e (p .says) (p .stored) (p .fit)
   where
     rest : List ℕ
@@ -54,12 +54,18 @@ rest-put {values} {out} {part′} {from} {base} {c} {r} {e} least p = go e (p .s
     here : c .next - c .next ≡ 0
     here = omega arith
 
-    go : (e : Encoded) → r ≡ answer (length values) e → Stored rest part′ 0 (c .next - c .next) e → Fit values 0 c e → Put values out lent 0 0 base c r e
+    go : (e : Encoded) → r ≡ answer (length values) e → Stored rest part′ 0 (c .next - c .next) e → Fit values 0 c e → Put values out lent 0 (c .next - base) base c r e
     go (wrote [] outside n u left) a s f =
         let s′ : part′ ≡ sets rest 0 outside = rw here at s in
         record { says = a; stored = rest-lent outside out part′ (c .next - base) from least s′; fit = f }
     go (wrote (x ∷ inline) outside n u left) a s f = absurd (omega (arith, f .whole))
-    go (cannot number left) a s f = record { says = a; stored = tt; fit = tt }
+    go (cannot number left) a s f =
+        let kept : KeptBefore out lent (c .next - base) = record {
+          long = rest-long out part′ (c .next - base) from least (s .long);
+          same = rest-same out part′ (c .next - base) from least (s .long);
+        }
+        in
+        record { says = a; stored = kept; fit = tt }
 
 -- The value in an object, from the cursor after the claim on.
 value-put : {values part part′ : List ℕ} {size : ℕ} {c d : Cursor} {w : Wrote} (fields : Encoder) → d ≡ opened size c → Puts values part part′ size 0 (c .next) d w fields

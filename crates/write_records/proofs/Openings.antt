@@ -24,6 +24,7 @@ use Rattle.write_records.specs.declared.records.Opened.the-variants.{Clo
 use Rattle.write_leaves.specs.Putting.{answer, Stored, Fit, Put, tookOne, Stands, Ask}
 use Rattle.write_records.specs.Opening.{Opens}
 use Rattle.write_records.specs.Contracts.{HasCount, Reaches, ClaimOpens, DeeperOpens}
+use Rattle.write_leaves.proofs.Kept.{kept-all, kept-then}
 use Rattle.write_leaves.proofs.InLine.{put-cannot, after-put, record-at}
 use Rattle.write_records.proofs.Levels.{levels-spent, levels-down}
 
@@ -33,14 +34,14 @@ pub padded-is : (size : ℕ) → padded size ≡ (size + 7) / 8 * 8
 unfolding padded roundUp
 padded-is size = refl
 
--- What takes no bytes in line stands at any place.
-put-anywhere : {values out out′ : List ℕ} {at base : ℕ} (there : ℕ) {c : Cursor} {r : Wrote} {e : Encoded} → Put values out out′ 0 there base c r e → Put values out out′ 0 at base c r e
-put-anywhere {values} {out} {out′} {at} {base} there {c} {r} {e} p = go e (p .says) (p .stored) (p .fit)
+-- What takes no bytes in line stands at any place before.
+put-before : {values out out′ : List ℕ} {at base : ℕ} (there : ℕ) {c : Cursor} {r : Wrote} {e : Encoded} → at ≤ there → Put values out out′ 0 there base c r e → Put values out out′ 0 at base c r e
+put-before {values} {out} {out′} {at} {base} there {c} {r} {e} before p = go e (p .says) (p .stored) (p .fit)
   where
     go : (e : Encoded) → r ≡ answer (length values) e → Stored out out′ there (c .next - base) e → Fit values 0 c e → Put values out out′ 0 at base c r e
     go (wrote [] outside n u rest) a s f = record { says = a; stored = s; fit = f }
     go (wrote (x ∷ inline) outside n u rest) a s f = absurd (omega (arith, f .whole))
-    go (cannot number left) a s f = record { says = a; stored = tt; fit = tt }
+    go (cannot number left) a s f = record { says = a; stored = kept-then there before kept-all s; fit = tt }
 
 -- 3: at the number taken last.
 pub claim-refused : (size : ℕ) (fields : Encoder) (numbers : List ℕ) (next used : ℕ) → 65536 < next + padded size
@@ -54,8 +55,8 @@ unfolding E.claim
 claim-goes size fields numbers next used h = let k : leb (next + padded size) 65536 ≡ true = le-leb _ _ h in rw k
 
 -- A refusal at the number taken last.
-pub put-last : {values out out′ : List ℕ} {size at base : ℕ} {c : Cursor} (number i index : ℕ) → i ≡ index + 1 → i ≤ length values
-    → Put values out out′ size at base c (Wrote.Refused (fault number (Index index))) (cannot number (suc (length (drop i values))))
+pub put-last : {values out : List ℕ} {size at base : ℕ} {c : Cursor} (number i index : ℕ) → i ≡ index + 1 → i ≤ length values
+    → Put values out out size at base c (Wrote.Refused (fault number (Index index))) (cannot number (suc (length (drop i values))))
 put-last {values} number i index e within = put-cannot number (suc (length (drop i values))) index (omega (arith, length-drop i values))
 
 module _ (size : ℕ) (c : Cursor) {whole : ℕ} (w : whole ≡ padded size) where
@@ -70,7 +71,7 @@ module _ (size : ℕ) (c : Cursor) {whole : ℕ} (w : whole ≡ padded size) whe
         refl,
         ap (λ (k : ℕ). record { next = c .next + k; handles = c .handles; index = c .index }) w,
         record { free = omega arith; held = ask .held; left = ask .left },
-        λ out″ r q. rw (claim-goes size fields (drop (c .index) values) (c .next) (c .handles) ends) (put-anywhere 0 q),
+        λ out″ r q. rw (claim-goes size fields (drop (c .index) values) (c .next) (c .handles) ends) (put-before (c .next - base) (omega (arith, ask .inside)) q),
       )
 
 -- ---- one level down, and a claim there
@@ -104,19 +105,19 @@ pub took-free : (values : List ℕ) (c d : Cursor) → Stands values c → d ≡
 took-free values c d s e = rw e (s .free)
 
 module _ (values out out′ : List ℕ) (size at base : ℕ) (c : Cursor) where
-  opens-after : (there : ℕ) (bytes : List ℕ) (whole : Encoded) (sizes : Opening → ℕ) (fields : Opening → Encoder) (r : Opened) → length bytes ≡ size → out′ ≡ sets out at bytes
-      → Opens values out′ out′ 0 there base (tookOne c) whole sizes fields r → Opens values out out′ size at base c (E.after bytes [] whole) sizes fields r
-  opens-after there bytes whole sizes fields (Closed d) l s p = after-put bytes l s p
-  opens-after there bytes whole sizes fields (Refused f) l s p = after-put bytes l s p
-  opens-after there bytes whole sizes fields (Open x) l s p = (p .0, p .1, p .2, λ out″ r q. after-put bytes l s (p .3 out″ r q))
+  opens-after : (bytes : List ℕ) (whole : Encoded) (sizes : Opening → ℕ) (fields : Opening → Encoder) (r : Opened) → length bytes ≡ size → out′ ≡ sets out at bytes
+      → Opens values out′ out′ 0 at base (tookOne c) whole sizes fields r → Opens values out out′ size at base c (E.after bytes [] whole) sizes fields r
+  opens-after bytes whole sizes fields (Closed d) l s p = after-put bytes l s p (omega arith)
+  opens-after bytes whole sizes fields (Refused f) l s p = after-put bytes l s p (omega arith)
+  opens-after bytes whole sizes fields (Open x) l s p = (p .0, p .1, p .2, λ out″ r q. after-put bytes l s (p .3 out″ r q) (omega arith))
 
   pub record-opens : (write : ℕ → WriteRecord) (continue : ℕ → Encoder) (v : ℕ) → c .index < length values → v ≡ getD values (c .index) 0
       → (bytes : List ℕ) → write v ≡ put bytes → length bytes ≡ size → out′ ≡ sets out at bytes
-      → (there : ℕ) (sizes : Opening → ℕ) (fields : Opening → Encoder) (r : Opened)
-      → Opens values out′ out′ 0 there base (tookOne c) (continue v (drop (c .index + 1) values) (c .next) (c .handles)) sizes fields r
+      → (sizes : Opening → ℕ) (fields : Opening → Encoder) (r : Opened)
+      → Opens values out′ out′ 0 at base (tookOne c) (continue v (drop (c .index + 1) values) (c .next) (c .handles)) sizes fields r
       → Opens values out out′ size at base c (E.recordThen write continue (drop (c .index) values) (c .next) (c .handles)) sizes fields r
-  record-opens write continue v h read bytes w l s there sizes fields r p =
-      rw (record-at write continue values (c .index) (c .next) (c .handles) h, ← read, w) (opens-after there bytes _ sizes fields r l s p)
+  record-opens write continue v h read bytes w l s sizes fields r p =
+      rw (record-at write continue values (c .index) (c .next) (c .handles) h, ← read, w) (opens-after bytes _ sizes fields r l s p)
 
 -- With what is left said by the opening's own count.
 pub opens-same : (values out out′ : List ℕ) (inline at base : ℕ) (c : Cursor) (whole : Encoded) (count : ℕ) {sizes sizes′ : Opening → ℕ} {fields fields′ : Opening → Encoder}

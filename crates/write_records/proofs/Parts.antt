@@ -8,8 +8,8 @@ use native.Mathlib.Nat.{add-suc, add-zero, le-of-lt, min-eq-left, min-eq-right}
 use native.Mathlib.Omega.{arith}
 use borrow.Author.Tests.{leb-true, leb-false}
 use lib.Dec.{leb}
-use lib.ListN.{length, take, drop, set, take-append-drop, length-drop, drop-of-length-le}
-use lib.Seq.{sets, take-set-le, drop-set-add, take-all}
+use lib.ListN.{length, take, drop, set, take-append-drop, length-drop, length-append, drop-of-length-le}
+use lib.Seq.{sets, take-set-le, drop-set-add, take-all, take-at, length-take-le, length-front}
 use Rattle.words.proofs.Stores.{sets-past}
 
 module _ {ℓ} {A : Type ℓ} where
@@ -39,3 +39,32 @@ module _ {ℓ} {A : Type ℓ} where
           let h : length list ≤ n = le-of-lt (leb-false n (length list) q) in
           let s : a ≡ length list = e ∙ min-eq-right h in
           rw (sets-past list a run (omega (arith, s)), sets-past list n run h)
+
+  -- Whatever such a callee left there, of the same length: the whole is as long as it was, and nothing before n changes.
+  module _ (list part : List A) (n a : ℕ) (e : a ≡ min n (length list)) (long : length part ≡ length (take (length list - a) (drop a list))) where
+    abbrev whole : List A
+    whole = take a list ++ (part ++ drop (length list - a) (drop a list))
+
+    pub rest-long : length whole ≡ length list
+    rest-long =
+        length-append (take a list) (part ++ drop (length list - a) (drop a list))
+        ∙ ap (λ (k : ℕ). length (take a list) + k) (length-front (drop a list) part (length list - a) long)
+        ∙ sym (length-append (take a list) (drop a list))
+        ∙ ap length (take-append-drop a list)
+
+    front : a ≤ length list → take a whole ≡ take a list
+    front h = take-at (take a list) (part ++ drop (length list - a) (drop a list)) a (length-take-le a list h)
+
+    pub rest-same : take n whole ≡ take n list
+    rest-same = clipped (leb n (length list)) refl
+      where
+        clipped : (short : Bool) → leb n (length list) ≡ short → take n whole ≡ take n list
+        clipped true q =
+            let h : n ≤ length list = leb-true n (length list) q in
+            let s : a ≡ n = e ∙ min-eq-left h in
+            ap (λ (k : ℕ). take k whole) (sym s) ∙ front (omega (arith, s)) ∙ ap (λ (k : ℕ). take k list) s
+        clipped false q =
+            let h : length list ≤ n = le-of-lt (leb-false n (length list) q) in
+            let s : a ≡ length list = e ∙ min-eq-right h in
+            let all = take-all n whole (omega (arith, rest-long)) ∙ sym (take-all a whole (omega (arith, rest-long, s))) in
+            all ∙ front (omega (arith, s)) ∙ take-all a list (omega (arith, s)) ∙ sym (take-all n list h)

@@ -63,7 +63,7 @@ module _ (values out : List ℕ) (depth at : ℕ) (c : Cursor) (s : Stands value
         → Opens values out whole 16 at base c
         (E.recordThen writeTable (R.afterTable t (R.levels t depth) content) (drop (c .index) values) (c .next) (c .handles)) sizes fields r
     table-leads t content base sizes fields r opens =
-        record-opens values out whole 16 at base c writeTable (R.afterTable t (R.levels t depth) content) v h read (countBytes v ones64) (writes-table v f) (count-length v ones64) (count-stored out at v ones64 p q) at sizes fields r opens
+        record-opens values out whole 16 at base c writeTable (R.afterTable t (R.levels t depth) content) v h read (countBytes v ones64) (writes-table v f) (count-length v ones64) (count-stored out at v ones64 p q) sizes fields r opens
 
     pub table-spent : {g : Fault} → depth ≡ 0 → g ≡ fault tooDeep (Index (c .index)) → TableOpens values out whole depth at c (Refused g)
     table-spent {g} z e t content base edition ask =

@@ -13,7 +13,7 @@ use Rattle.rules.specs.declared.Fault.{Fault}
 use Rattle.rules.specs.declared.Place.{Place}
 use Rattle.rules.specs.declared.Place.the-variants.{Row, Byte, Index, Amount}
 use Rattle.rules.specs.Refusals.{fault, notAValue, messageTooLong, tooDeep}
-use Rattle.rules.specs.Bytes.{padded}
+use Rattle.rules.specs.Bytes.{zeros, padded}
 use Rattle.rules.specs.Text.{isUtf8}
 use Rattle.rules.specs.TypeTable.{TypeTable}
 use Rattle.rules.specs.Encode as E
@@ -33,6 +33,7 @@ use Rattle.write_leaves.specs.Putting.{answer, Put, Stands, Ask}
 use Rattle.write_records.specs.Opening.{opened, claimedFrom, Claimed, Opens}
 use Rattle.write_leaves.specs.InLine.{numbersAs}
 use Rattle.write_records.specs.Contracts.{NumbersPut, afterCount, CountedOpens, StringPuts}
+use Rattle.write_leaves.proofs.Kept.{kept-all, kept-sets}
 use Rattle.write_records.proofs.Openings.{record-same}
 use Rattle.write_records.proofs.Counts.{counted-stands}
 
@@ -59,35 +60,35 @@ onOf (W.Refused f) = 0
 -- ---- the test
 
 -- An object whose numbers are tested after it.
-module _ {values out out′ : List ℕ} (size : ℕ) {at base : ℕ} {c : Cursor} where
-  checked-cannot : {f : Fault} (e : Encoded) → Put values out out′ 0 at base c (W.Refused f) (E.asObject size e)
-      → Put values out out′ 0 at base c (W.Refused f) (E.asObject size (E.checkedGoes isUtf8 (drop (c .index) values) e))
+module _ {values out out′ : List ℕ} (size : ℕ) {base : ℕ} {c : Cursor} where
+  checked-cannot : {f : Fault} (e : Encoded) → Put values out out′ 0 (c .next - base) base c (W.Refused f) (E.asObject size e)
+      → Put values out out′ 0 (c .next - base) base c (W.Refused f) (E.asObject size (E.checkedGoes isUtf8 (drop (c .index) values) e))
   checked-cannot (wrote inline outside n u rest) p = absurd (let z : _≡_ {A = ℕ} 0 1 = ap onOf (p .says) in omega arith)
   checked-cannot (cannot number left) p = p
 
   module _ {d : Cursor} where
-    took-these : (inline outside : List ℕ) (n u : ℕ) (rest : List ℕ) → Put values out out′ 0 at base c (W.On d) (E.asObject size (wrote inline outside n u rest))
+    took-these : (inline outside : List ℕ) (n u : ℕ) (rest : List ℕ) → Put values out out′ 0 (c .next - base) base c (W.On d) (E.asObject size (wrote inline outside n u rest))
         → d .index - c .index ≡ length (drop (c .index) values) - length rest
     took-these inline outside n u rest p =
         let i : d .index ≡ length values - length rest = ap indexOf (p .says) in
         omega (arith, i, length-drop (c .index) values)
 
-    checked-holds : (e : Encoded) → Put values out out′ 0 at base c (W.On d) (E.asObject size e) → isUtf8 (take (d .index - c .index) (drop (c .index) values)) ≡ true
-        → Put values out out′ 0 at base c (W.On d) (E.asObject size (E.checkedGoes isUtf8 (drop (c .index) values) e))
+    checked-holds : (e : Encoded) → Put values out out′ 0 (c .next - base) base c (W.On d) (E.asObject size e) → isUtf8 (take (d .index - c .index) (drop (c .index) values)) ≡ true
+        → Put values out out′ 0 (c .next - base) base c (W.On d) (E.asObject size (E.checkedGoes isUtf8 (drop (c .index) values) e))
     checked-holds (wrote inline outside n u rest) p h =
         let k : isUtf8 (take (length (drop (c .index) values) - length rest) (drop (c .index) values)) ≡ true = rw (took-these inline outside n u rest p) at h in
         rw k p
     checked-holds (cannot number left) p h = absurd (let z : _≡_ {A = ℕ} 1 0 = ap onOf (p .says) in omega arith)
 
-    checked-fails : (e : Encoded) → Put values out out′ 0 at base c (W.On d) (E.asObject size e) → isUtf8 (take (d .index - c .index) (drop (c .index) values)) ≡ false
-        → Put values out out′ 0 at base c (W.Refused (fault notAValue (Index (length values - suc (length (drop (c .index) values))))))
+    checked-fails : (e : Encoded) → Put values out out′ 0 (c .next - base) base c (W.On d) (E.asObject size e) → isUtf8 (take (d .index - c .index) (drop (c .index) values)) ≡ false
+        → Put values out out′ 0 (c .next - base) base c (W.Refused (fault notAValue (Index (length values - suc (length (drop (c .index) values))))))
         (E.asObject size (E.checkedGoes isUtf8 (drop (c .index) values) e))
     checked-fails (wrote inline outside n u rest) p h =
         let k : isUtf8 (take (length (drop (c .index) values) - length rest) (drop (c .index) values)) ≡ false = rw (took-these inline outside n u rest p) at h in
-        rw k (record { says = refl; stored = tt; fit = tt })
+        rw k (record { says = refl; stored = kept-sets (c .next - base) ((inline ++ zeros (padded size - size)) ++ outside) (omega arith) (p .stored); fit = tt })
     checked-fails (cannot number left) p h = absurd (let z : _≡_ {A = ℕ} 1 0 = ap onOf (p .says) in omega arith)
 
-    done-within : (e : Encoded) → Put values out out′ 0 at base c (W.On d) (E.asObject size e) → (c .index ≤ d .index) × (d .index ≤ length values)
+    done-within : (e : Encoded) → Put values out out′ 0 (c .next - base) base c (W.On d) (E.asObject size e) → (c .index ≤ d .index) × (d .index ≤ length values)
     done-within (wrote inline outside n u rest) p =
         let i : d .index ≡ length values - length rest = ap indexOf (p .says) in
         (omega (arith, i, p .fit .taken), omega (arith, i))
@@ -160,7 +161,7 @@ module _ (values out half : List ℕ) (depth at base : ℕ) (c : Cursor) (larges
     judged =
         let mark : ℕ = length values - suc (length (drop (x .cursor .index) values)) in
         let o = rw is-open at (opens someTable base (λ count rows b numbers n u. cannot 0 (suc (length numbers))) ask) in
-        let p = o .3 half (W.Refused (fault 0 (Index mark))) (record { says = refl; stored = tt; fit = tt }) in
+        let p = o .3 half (W.Refused (fault 0 (Index mark))) (record { says = refl; stored = kept-all; fit = tt }) in
         let m : mark ≡ length values - length (drop (c .index) values) = marks (length values) (c .next) (c .handles) mark (R.levels someTable depth) (writeCount (eqb optional 1) largest) (drop (c .index) values) (p .says) in
         omega (arith, m, length-drop (c .index) values, ask .left)
 
@@ -168,11 +169,11 @@ module _ (values out half : List ℕ) (depth at base : ℕ) (c : Cursor) (larges
       abbrev run : Encoded
       run = E.elements (λ i. encodeWord 1) 0 (x .count) (drop (x .cursor .index) values) (x .start + padded (x .count * 1)) (x .cursor .handles)
 
-      ran : {w : Wrote} → s ≡ w → Put values half last 0 0 base (claimedFrom x) w (E.asObject (x .count * 1) run)
+      ran : {w : Wrote} → s ≡ w → Put values half last 0 (x .start - base) base (claimedFrom x) w (E.asObject (x .count * 1) run)
       unfolding numbersAs E.elements
       ran e = rw e at put
 
-      close : {w : Wrote} → Put values half last 0 0 base (claimedFrom x) w (E.asObject (x .count * 1) (E.checkedGoes isUtf8 (drop (x .cursor .index) values) run))
+      close : {w : Wrote} → Put values half last 0 (x .start - base) base (claimedFrom x) w (E.asObject (x .count * 1) (E.checkedGoes isUtf8 (drop (x .cursor .index) values) run))
           → StringPuts values out last depth at c base largest optional w
       unfolding E.checked E.elements
       close {w} p t = let o = rw is-open at (string-opens t) in o .3 last w p

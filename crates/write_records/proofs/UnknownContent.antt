@@ -63,7 +63,7 @@ put-from {values} {out} {out′} {size} {at} {base} {c} d {r} {e} same u i p = g
         left = f .left;
       };
     }
-    go (cannot number left) a s f = record { says = a; stored = tt; fit = tt }
+    go (cannot number left) a s f = record { says = a; stored = s; fit = tt }
 
 pub put-later : {values out out′ : List ℕ} {size at base : ℕ} {c : Cursor} {r : Wrote} {e : Encoded} → Put values out out′ size at base (tookOne c) r e → Put values out out′ size at base c r e
 put-later {c = c} p = put-from (tookOne c) refl (omega arith) (omega arith) p
@@ -252,9 +252,10 @@ module _ (values out : List ℕ) (base bytes at : ℕ) (c : Cursor) (ask : Ask v
                 let u : f .handles ≡ c .handles + v = ap (λ (x : Cursor). x .handles) (out-held .moved) in
                 let i : f .index ≡ c .index + 1 = ap (λ (x : Cursor). x .index) (out-held .moved) in
                 let eight : bytes / 8 * 8 ≡ bytes = omega (arith, eights) in
+                let before : at ≤ c .next - base = omega (arith, ask .inside) in
                 rw out-words
                 (after-put (envelopeBytes bytes v 0) (envelope-whole bytes v 0) stored
-                (put-from (claimedFrom (words-from c bytes (f .handles) (f .index))) refl (omega arith) (omega arith) (rw eight at q)))
+                (put-from (claimedFrom (words-from c bytes (f .handles) (f .index))) refl (omega arith) (omega arith) (rw eight at q)) before)
 
         module _ (k : v ≤ 65535) where
           pub plain-over : {r : Wrote} → 64 < c .handles + v → r ≡ Refused (fault 4 (Index (c .index))) → Puts values out out 8 at base c r (writeUnknownOutOfLine bytes)

@@ -33,10 +33,11 @@ pub record Claimed (values : List ℕ) (size base : ℕ) (x : Opening) : Type 0 
   pub advanced : x .cursor ≡ opened size (claimedFrom x)
   pub stands : Stands values (x .cursor)
 
--- An object of `size` bytes is written from its claim on: its value, its fill, and the objects within. It takes nothing in line.
+-- An object of `size` bytes is written from its claim on, at its own offset: its value, its fill, and the objects within. It takes
+-- nothing in line.
 abbrev pub ObjectPut : (values out out′ : List ℕ) (size base : ℕ) (c : Cursor) (r : Wrote) → Encoder → Type 0
 ObjectPut values out out′ size base c r fields =
-    Put values out out′ 0 0 base c r (E.asObject size (fields (drop (c .index) values) (opened size c .next) (c .handles)))
+    Put values out out′ 0 (c .next - base) base c r (E.asObject size (fields (drop (c .index) values) (opened size c .next) (c .handles)))
 
 -- Put already, or refused; or an object of `size` bytes is open, and whoever writes `fields` as that object has put the whole.
 abbrev pub Opens : (values out out′ : List ℕ) (inline at base : ℕ) (c : Cursor) (whole : Encoded) (size : Opening → ℕ) (fields : Opening → Encoder) → Opened → Type 0

@@ -122,19 +122,19 @@ module _ {values out out′ out″ : List ℕ} {at base : ℕ} {c d : Cursor} wh
 -- A part that is refused, whatever its envelope's fields would be.
 flags-halt : {values out out′ : List ℕ} {size at base : ℕ} (form whole used : ℕ) {c : Cursor} {f : Fault} {e : Encoded} → Put values out out′ size at base c (Refused f) e
     → Put values out out′ whole at base c (Refused f) (flagsGo form used e)
-flags-halt {values} {out} {out′} {size} {at} {base} form whole used {c} {f} {e} p = go e (p .says)
+flags-halt {values} {out} {out′} {size} {at} {base} form whole used {c} {f} {e} p = go e (p .says) (p .stored)
   where
-    go : (e : Encoded) → Refused f ≡ answer (length values) e → Put values out out′ whole at base c (Refused f) (flagsGo form used e)
-    go (wrote inline outside n u rest) a = absurd (let y : _≡_ {A = ℕ} 0 1 = cc in omega arith)
-    go (cannot number left) a = record { says = a; stored = tt; fit = tt }
+    go : (e : Encoded) → Refused f ≡ answer (length values) e → Stored out out′ at (c .next - base) e → Put values out out′ whole at base c (Refused f) (flagsGo form used e)
+    go (wrote inline outside n u rest) a s = absurd (let y : _≡_ {A = ℕ} 0 1 = cc in omega arith)
+    go (cannot number left) a s = record { says = a; stored = s; fit = tt }
 
 bytes-halt : {values out out′ : List ℕ} {size at base : ℕ} (next : ℕ) {c : Cursor} {f : Fault} {e : Encoded} → Put values out out′ size at base c (Refused f) e
     → Put values out out′ size at base c (Refused f) (byteNumberGoes next e)
-bytes-halt {values} {out} {out′} {size} {at} {base} next {c} {f} {e} p = go e (p .says)
+bytes-halt {values} {out} {out′} {size} {at} {base} next {c} {f} {e} p = go e (p .says) (p .stored)
   where
-    go : (e : Encoded) → Refused f ≡ answer (length values) e → Put values out out′ size at base c (Refused f) (byteNumberGoes next e)
-    go (wrote inline outside n u rest) a = absurd (let y : _≡_ {A = ℕ} 0 1 = cc in omega arith)
-    go (cannot number left) a = record { says = a; stored = tt; fit = tt }
+    go : (e : Encoded) → Refused f ≡ answer (length values) e → Stored out out′ at (c .next - base) e → Put values out out′ size at base c (Refused f) (byteNumberGoes next e)
+    go (wrote inline outside n u rest) a s = absurd (let y : _≡_ {A = ℕ} 0 1 = cc in omega arith)
+    go (cannot number left) a s = record { says = a; stored = s; fit = tt }
 
 -- ---- unknown content
 

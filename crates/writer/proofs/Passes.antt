@@ -31,6 +31,7 @@ use Rattle.write_leaves.specs.Putting.{answer, Stored, Fit, Put, Ask}
 use Rattle.write_walk.specs.Walking.{ValuePut}
 use Rattle.writer.specs.Answers.{writtenOf, sizesOf}
 use Rattle.writer.specs.Passing.{start, afterValue, PrimaryPut, Passed}
+use Rattle.write_leaves.proofs.Leading.{wrote-length}
 use Rattle.write_records.proofs.Claims.{object-filled}
 
 -- ---- the primary object
@@ -42,10 +43,13 @@ unfolding encode E.claim padded roundUp
 encode-root t root values h = rw (le-leb (0 + padded (sizeOf t root)) 65536 (omega arith))
 
 -- A value that is refused, as an object.
-object-refused : {values out out′ : List ℕ} (size : ℕ) {c : Cursor} {f : Fault} (e : Encoded) → Refused f ≡ answer (length values) e
+object-refused : {values out out′ : List ℕ} {inner : ℕ} (size : ℕ) {c d : Cursor} {f : Fault} {e : Encoded} → Put values out out′ inner 0 0 d (Refused f) e
     → Put values out out′ 0 0 0 c (Refused f) (E.asObject size e)
-object-refused size (wrote inline outside n u rest) a = absurd (let w : _≡_ {A = ℕ} 0 1 = cc in omega arith)
-object-refused size (cannot number left) a = record { says = a; stored = tt; fit = tt }
+object-refused {values} {out} {out′} size {c} {d} {f} {e} p = go e (p .says) (p .stored)
+  where
+    go : (e : Encoded) → Refused f ≡ answer (length values) e → Stored out out′ 0 (d .next - 0) e → Put values out out′ 0 0 0 c (Refused f) (E.asObject size e)
+    go (wrote inline outside n u rest) a s = absurd (let w : _≡_ {A = ℕ} 0 1 = cc in omega arith)
+    go (cannot number left) a s = record { says = a; stored = s; fit = tt }
 
 module _ {t : TypeTable} {sizes alignments : List ℕ} {root : ℕ} (ready : Ready t sizes alignments 32 root) {size : ℕ}
     (kept : size ≡ getD sizes root 0) where
@@ -79,7 +83,7 @@ module _ {t : TypeTable} {sizes alignments : List ℕ} {root : ℕ} (ready : Rea
     value-put = rw claimed at put
 
     pub primary-refused : {f : Fault} → r ≡ Refused f → PrimaryPut t values root out out′ (Refused f)
-    primary-refused e = rw (encode-root t root values size-bound) (object-refused (sizeOf t root) written (sym e ∙ value-put .says))
+    primary-refused e = rw (encode-root t root values size-bound) (object-refused (sizeOf t root) (rw e at value-put))
 
     pub primary-put : {end : Cursor} {out″ : List ℕ} → r ≡ On end → out″ ≡ sets out′ size (zeros (padded size - size)) → PrimaryPut t values root out out″ (On end)
     primary-put e z = rw (encode-root t root values size-bound) (object-filled {c = start} (rw e at value-put) (rw root-size at z))
@@ -91,7 +95,7 @@ module _ (t : TypeTable) (values : List ℕ) (root : ℕ) {out out′ : List ℕ
   whole = encode t root values
 
   pub value-refused : {f : Fault} → r ≡ Refused f → Passed t values root out out′ (Whole.Refused f)
-  value-refused {f} e = record { answers = says whole (put .says); stored = λ w. nothing whole (put .says) w }
+  value-refused {f} e = record { answers = says whole (put .says); long = wrote-length put; stored = λ w. nothing whole (put .says) w }
     where
       says : (d : Encoded) → r ≡ answer (length values) d → refused f ≡ sizesOf (closed (length values) d)
       says (wrote i o n u rest) a = absurd (let w : _≡_ {A = ℕ} 0 1 = cc in omega arith)
@@ -103,7 +107,7 @@ module _ (t : TypeTable) (values : List ℕ) (root : ℕ) {out out′ : List ℕ
 
   pub value-ended : {end : Cursor} {w : Written} → r ≡ On end → writtenOf w ≡ afterValue end (length values) → Passed t values root out out′ w
   value-ended {end} e tested =
-      record { answers = tested ∙ says whole (put .says) (put .fit); stored = λ w. stands whole (put .says) (put .stored) (put .fit) w }
+      record { answers = tested ∙ says whole (put .says) (put .fit); long = wrote-length put; stored = λ w. stands whole (put .says) (put .stored) (put .fit) w }
     where
       says : (d : Encoded) → r ≡ answer (length values) d → Fit values 0 start d → afterValue end (length values) ≡ sizesOf (closed (length values) d)
       says (wrote i o n u []) a f =

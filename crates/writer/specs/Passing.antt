@@ -32,8 +32,9 @@ module _ (t : TypeTable) (values : List ℕ) (root : ℕ) (out out′ : List ℕ
   abbrev pub PrimaryPut : Wrote → Type 0
   PrimaryPut r = Put values out out′ 0 0 0 start r (encode t root values)
 
-  -- One pass with the test after it. A message stands from the start on, as far as there is room; what a refusal leaves is not
-  -- said: nothing is lent to a pass that may be refused.
+  -- One pass with the test after it. A message stands from the start on, as far as there is room; a refusal may leave a part of one
+  -- there, which is why nothing is lent to a pass that may be refused.
   pub record Passed (r : Written) : Type 0 where
     pub answers : writtenOf r ≡ sizesOf (closed (length values) (encode t root values))
+    pub long : length out′ ≡ length out
     pub stored : (w : Rules.Written) → closed (length values) (encode t root values) ≡ accepted w → out′ ≡ sets out 0 (w .bytes)
