@@ -110,7 +110,7 @@ uint32_t ratlinery_check(const uint32_t *rows, size_t rows_len, const uint32_t *
 /* The value list and the object list of a message, from the start of `values` and `objects` on.
  * answer: place, numbers given in values, numbers given in objects (four an object).
  * Refusals: those of ratlinery_check; then 22 with the numbers needed in objects, then 22 with those needed in values.
- * A message never gives more value numbers than it has bytes, nor more object numbers than 4 and half its bytes. */
+ * Together the two lists have at most as many numbers as the message has bytes, and four more. */
 uint32_t ratlinery_read(const uint32_t *rows, size_t rows_len, const uint32_t *members, size_t members_len,
                         uint32_t root, const uint8_t *message, size_t message_len, uint64_t handles,
                         uint64_t *values, size_t values_len, uint32_t *objects, size_t objects_len,

@@ -2,15 +2,10 @@
 // failed. A case is a line: its operation's number, the inputs, and the answer that it must give. vectors/make.py makes
 // the stream from the vector files, and finds the vector that a line was made from.
 ghost use mathlib.Core.Path.{_≡_};
-ghost use Prim.Native.Nat.{_≤_, _<_};
+ghost use Prim.Native.Nat.{_≤_};
 ghost use lib.ListN.{length};
-ghost use Rattle.io.specs.Counts.{Counts};
 
-// Room for the stream, for the numbers of one case, and for the bytes of a message.
-const TEXT_ROOM: usize = 524288;
-
-const CASE_ROOM: usize = 16384;
-
+// Room for the bytes of a message.
 const MESSAGE_ROOM: usize = 4096;
 
 // More than a type table's list may hold, so that lists that are too long can be handed on as they are.
@@ -28,9 +23,9 @@ const OPERATIONS: usize = 9;
 const FAILURES_SHOWN: usize = 8;
 
 fn main() {
-    let mut text = text_room();
+    let mut text = stream::text_room();
     let count = io::read_full(0, &mut text);
-    if count == TEXT_ROOM {
+    if count == stream::TEXT_ROOM {
         io::write_all(1, b"the stream is too long\n");
         return;
     }
@@ -38,7 +33,7 @@ fn main() {
 }
 
 fn run(text: &[u8]) {
-    let mut numbers = case_room();
+    let mut numbers = stream::line_room();
     let mut passed = [0u64; OPERATIONS];
     let mut failed = [0u64; OPERATIONS];
     let mut failures: usize = 0;
@@ -101,27 +96,15 @@ fn write_counts(operation: usize, passed: u64, failed: u64) {
     io::write_all(1, b" failed\n");
 }
 
-// ---- room: the contracts give the lengths alone, so that no proof goes into a long list
-
-fn text_room() -> [u8; TEXT_ROOM]
-    ensures { λ r. ⌜ 524288 ≡ length r ⌝ }
-{
-    [0; TEXT_ROOM]
-}
-
-fn case_room() -> [u64; CASE_ROOM]
-    ensures { λ r. ⌜ 16384 ≡ length r ⌝ }
-{
-    [0; CASE_ROOM]
-}
-
+// The contract gives the length alone, so that no proof goes into a long list.
 fn message_room() -> [u8; MESSAGE_ROOM]
     ensures { λ r. ⌜ 4096 ≡ length r ⌝ }
 {
     [0; MESSAGE_ROOM]
 }
 
-// ---- operations: for each a line in these two functions, a function of its own, and a line in vectors/make.py
+// ---- operations: for each a line in these two functions, a function of its own, and a line in vectors/make.py. A function is
+// handed the numbers of a case after its operation's number.
 
 fn write_name(operation: usize) -> bool {
     match operation {
@@ -138,56 +121,37 @@ fn write_name(operation: usize) -> bool {
 }
 
 fn passes(operation: usize, case: &[u64]) -> bool {
+    let numbers = stream::rest(case, 1);
     match operation {
-        1 => is_utf8(case),
-        2 => sound(case),
-        3 => layout_of(case),
-        4 => header_read(case),
-        5 => header_write(case),
-        6 => check(case),
-        7 => read(case),
-        8 => write(case),
+        1 => is_utf8(numbers),
+        2 => sound(numbers),
+        3 => layout_of(numbers),
+        4 => header_read(numbers),
+        5 => header_write(numbers),
+        6 => check(numbers),
+        7 => read(numbers),
+        8 => write(numbers),
         _ => false,
     }
 }
 
 // The message, the place and the count; 1 for text that is UTF-8, else 0.
 fn is_utf8(case: &[u64]) -> bool {
-    let numbers = stream::list(case, 1);
+    let numbers = stream::list(case, 0);
     let mut message = message_room();
     let count = stream::to_bytes(numbers, &mut message);
-    let next = 2 + numbers.len();
+    let next = 1 + numbers.len();
     let at = words::value_at(case, next) as usize;
     let length = words::value_at(case, next + 1) as usize;
     let answer = [text::is_utf8(&message[..count], at, length) as u64];
     stream::same(stream::rest(case, next + 2), &answer)
 }
 
-// How many numbers of a case's row list and member list were put into the rooms, and where the case's other inputs start.
-struct Table {
-    rows: usize,
-    members: usize,
-    next: usize,
-}
-
-fn put_table(case: &[u64], rows: &mut [u32], members: &mut [u32]) -> Table
-    ensures { λ r. ⌜ Counts (r .rows) (now (rows .exit)) × Counts (r .members) (now (members .exit)) × (r .next < 4611686018427387904) ⌝ }
-{
-    let row_list = stream::list(case, 1);
-    let at_members = 2 + row_list.len();
-    let member_list = stream::list(case, at_members);
-    Table {
-        rows: stream::to_words(row_list, rows),
-        members: stream::to_words(member_list, members),
-        next: at_members + 1 + member_list.len(),
-    }
-}
-
 // The row list and the member list; number and place.
 fn sound(case: &[u64]) -> bool {
     let mut rows = [0u32; LIST_ROOM];
     let mut members = [0u32; LIST_ROOM];
-    let t = put_table(case, &mut rows, &mut members);
+    let t = stream::put_table(case, &mut rows, &mut members);
     let mut sizes = [0u32; 256];
     let mut alignments = [0u32; 256];
     let verdict = layout::prepare(
@@ -210,7 +174,7 @@ fn sound(case: &[u64]) -> bool {
 fn layout_of(case: &[u64]) -> bool {
     let mut rows = [0u32; LIST_ROOM];
     let mut members = [0u32; LIST_ROOM];
-    let t = put_table(case, &mut rows, &mut members);
+    let t = stream::put_table(case, &mut rows, &mut members);
     let row = (words::value_at(case, t.next) % 4294967296) as u32;
     let answer = stream::rest(case, t.next + 1);
     match layout::layout_of(&rows[..t.rows], &members[..t.members], row) {
@@ -229,7 +193,7 @@ fn layout_of(case: &[u64]) -> bool {
 fn check(case: &[u64]) -> bool {
     let mut rows = [0u32; LIST_ROOM];
     let mut members = [0u32; LIST_ROOM];
-    let t = put_table(case, &mut rows, &mut members);
+    let t = stream::put_table(case, &mut rows, &mut members);
     let root = (words::value_at(case, t.next) % 4294967296) as u32;
     let numbers = stream::list(case, t.next + 1);
     let mut message = message_room();
@@ -256,7 +220,7 @@ fn check(case: &[u64]) -> bool {
 fn read(case: &[u64]) -> bool {
     let mut rows = [0u32; LIST_ROOM];
     let mut members = [0u32; LIST_ROOM];
-    let t = put_table(case, &mut rows, &mut members);
+    let t = stream::put_table(case, &mut rows, &mut members);
     let root = (words::value_at(case, t.next) % 4294967296) as u32;
     let numbers = stream::list(case, t.next + 1);
     let mut message = message_room();
@@ -418,10 +382,10 @@ fn objects_are(objects: &[u32; NUMBERS_ROOM], given: &[u64]) -> bool {
 
 // The message; number, place, transaction number, three flags, ordinal, and where the body starts and ends.
 fn header_read(case: &[u64]) -> bool {
-    let numbers = stream::list(case, 1);
+    let numbers = stream::list(case, 0);
     let mut message = message_room();
     let count = stream::to_bytes(numbers, &mut message);
-    let answer = stream::rest(case, 2 + numbers.len());
+    let answer = stream::rest(case, 1 + numbers.len());
     let bytes = &message[..count];
     let length = header::body(bytes).len() as u64;
     match header::read_header(bytes) {
@@ -461,17 +425,17 @@ fn header_read(case: &[u64]) -> bool {
 // Transaction number, three flags, ordinal and room; number, place, and the bytes that were written. The output is lent
 // full of ones: past what was written, and on a refusal everywhere, they must still be there.
 fn header_write(case: &[u64]) -> bool {
-    let room = words::value_at(case, 6);
+    let room = words::value_at(case, 5);
     let mut output = [255u8; OUTPUT_ROOM];
     let h = header::Header {
-        transaction: (words::value_at(case, 1) % 4294967296) as u32,
-        flag0: (words::value_at(case, 2) % 256) as u8,
-        flag1: (words::value_at(case, 3) % 256) as u8,
-        flag2: (words::value_at(case, 4) % 256) as u8,
-        ordinal: words::value_at(case, 5),
+        transaction: (words::value_at(case, 0) % 4294967296) as u32,
+        flag0: (words::value_at(case, 1) % 256) as u8,
+        flag1: (words::value_at(case, 2) % 256) as u8,
+        flag2: (words::value_at(case, 3) % 256) as u8,
+        ordinal: words::value_at(case, 4),
     };
-    let answer = stream::first(stream::rest(case, 7), 2);
-    let bytes = stream::list(case, 9);
+    let answer = stream::first(stream::rest(case, 6), 2);
+    let bytes = stream::list(case, 8);
     match write_within(h, &mut output, room) {
         header::HeaderWritten::Bytes(count) => stream::same(answer, &[0, 0])
             & wrote(&output, bytes, count),
@@ -516,7 +480,7 @@ fn wrote(output: &[u8; OUTPUT_ROOM], bytes: &[u64], count: usize) -> bool {
 fn write(case: &[u64]) -> bool {
     let mut rows = [0u32; LIST_ROOM];
     let mut members = [0u32; LIST_ROOM];
-    let t = put_table(case, &mut rows, &mut members);
+    let t = stream::put_table(case, &mut rows, &mut members);
     let root = (words::value_at(case, t.next) % 4294967296) as u32;
     let values = stream::list(case, t.next + 1);
     let next = t.next + 2 + values.len();

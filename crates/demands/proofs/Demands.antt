@@ -1,33 +1,38 @@
--- The three demands of specs/Demands.antt, proved: from those of the rules, by the promises of the public functions.
+-- Demands 2 and 3 of specs/Demands.antt, proved: from those of the rules, by the promises of the public functions.
 -- Assumes nothing.
 use mathlib.Core.Path.{_≡_, refl, sym, ap, _∙_}
 use mathlib.Core.List.{List, [], _++_, append-nil}
 use Prim.Native.Nat.{ℕ, _≤_}
 use native.Mathlib.Omega.{arith}
 use lib.ListN.{length, take, drop}
-use lib.Seq.{drop-length, take-at, drop-at}
-use Rattle.rules.specs.Refusals.{Answer, accepted, refused, andThen, lentAfter}
+use lib.Seq.{drop-length, take-at}
+use Rattle.rules.specs.Refusals.{Answer, accepted, refused, lentAfter}
 use Rattle.rules.specs.Bytes.{Octets}
 use Rattle.rules.specs.TypeTable.{TypeTable, typeTable}
 use Rattle.rules.specs.Decode.{Message}
 use Rattle.rules.specs.Answers as Rules
 use Rattle.rules.specs.Answers.{Lists, outputAfter}
 use Rattle.rules.specs.Demands as Of
-use Rattle.rules.specs.Demands.{HasValue, HasObjects, IsWrittenTo}
+use Rattle.rules.specs.Demands.{HasValue, HasObjects, HasBoth, IsWrittenTo}
 use Rattle.rules.proofs.Demands as Proved
 use Rattle.reader.specs.declared.Verdict.{Verdict}
 use Rattle.reader.specs.declared.Verdict.the-variants as Checked
 use Rattle.reader.specs.declared.Given.{Given}
 use Rattle.reader.specs.declared.Given.the-variants as One
-use Rattle.reader.specs.Doing as Doing
+use Rattle.reader.specs.declared.Lengths.{Lengths}
+use Rattle.reader.specs.declared.Reading.{Reading}
+use Rattle.reader.specs.declared.Reading.the-variants as Both
+use Rattle.walk_leaves.specs.Doing as Doing
 use Rattle.reader.specs.Answers.{verdictOf, givenOf, readingOf, lengthOf, lengthsOf, valuesIn, objectsIn}
+use Rattle.reader.proofs.Numbers.{given-numbers, reading-numbers}
 use Rattle.writer.specs.declared.Sizes.{Sizes}
 use Rattle.writer.specs.declared.Written.{Written}
 use Rattle.writer.specs.declared.Written.the-variants as Whole
 use Rattle.writer.specs.Answers.{writtenOf, sizesOf}
+use Rattle.writer.proofs.Numbers.{written-numbers}
 use Rattle.demands.specs.Promises.{Checks, ReadsValues, ReadsObjects, Reads, Writes}
-use Rattle.demands.specs.Demands.{Keeps, IsReadAs, IsListedAs, IsWrittenAs, Demand1, Demand2, Canonical, Demand3}
-use Rattle.demands.proofs.More.{values-more, write-more}
+use Rattle.demands.specs.Demands.{IsReadAs, IsListedAs, IsReadBothAs, IsWrittenAs, Demand2, Canonical, Demand3}
+use Rattle.demands.proofs.More.{values-more, objects-more, write-more, each-of}
 
 -- ---- answers
 
@@ -38,6 +43,10 @@ verdict-accepted (Checked.Refused f) e = absurd (let z : _≡_ {A = ℕ} 0 1 = c
 given-accepted : (r : Given) {count : ℕ} → givenOf r ≡ accepted count → r ≡ One.Accepted count
 given-accepted (One.Accepted n) e = cc
 given-accepted (One.Refused f) e = absurd (let z : _≡_ {A = ℕ} 0 1 = cc in omega arith)
+
+reading-accepted : (r : Reading) {counts : Lengths} → readingOf r ≡ accepted counts → r ≡ Both.Accepted counts
+reading-accepted (Both.Accepted n) e = cc
+reading-accepted (Both.Refused f) e = absurd (let z : _≡_ {A = ℕ} 0 1 = cc in omega arith)
 
 written-accepted : (r : Written) {sizes : Sizes} → writtenOf r ≡ accepted sizes → r ≡ Whole.Accepted sizes
 written-accepted (Whole.Accepted n) e = cc
@@ -52,6 +61,14 @@ given-as : (a : Answer ℕ) → givenOf (givenAs a) ≡ a
 given-as (accepted count) = refl
 given-as (refused f) = refl
 
+abbrev readingAs : Answer Lengths → Reading
+readingAs (accepted counts) = Both.Accepted counts
+readingAs (refused f) = Both.Refused f
+
+reading-as : (a : Answer Lengths) → readingOf (readingAs a) ≡ a
+reading-as (accepted counts) = refl
+reading-as (refused f) = refl
+
 abbrev writtenAs : Answer Sizes → Written
 writtenAs (accepted sizes) = Whole.Accepted sizes
 writtenAs (refused f) = Whole.Refused f
@@ -59,41 +76,6 @@ writtenAs (refused f) = Whole.Refused f
 written-as : (a : Answer Sizes) → writtenOf (writtenAs a) ≡ a
 written-as (accepted sizes) = refl
 written-as (refused f) = refl
-
--- ---- demand 1
-
-keeps : (answer : Answer ℕ) (given : Answer (List ℕ)) (lent after : List ℕ) → answer ≡ lengthOf given → after ≡ lentAfter given lent → Keeps answer lent after
-keeps answer (accepted list) lent after e l = rw (e, l) (drop-at list (drop (length list) lent) (length list) refl)
-keeps answer (refused f) lent after e l = rw e l
-
-value-count : (read : Answer Lists) → andThen (lengthsOf read) (λ n. accepted (n .values)) ≡ lengthOf (valuesIn read)
-value-count (accepted lists) = refl
-value-count (refused f) = refl
-
-object-count : (read : Answer Lists) → andThen (lengthsOf read) (λ n. accepted (n .objects)) ≡ lengthOf (objectsIn read)
-object-count (accepted lists) = refl
-object-count (refused f) = refl
-
-byte-count : (write : Answer Rules.Written) → andThen (sizesOf write) (λ n. accepted (n .bytes)) ≡ lengthOf (andThen write (λ w. accepted (w .bytes)))
-byte-count (accepted w) = refl
-byte-count (refused f) = refl
-
-module _ (rows members : List ℕ) (root : ℕ) where
-  pub demand1 : Demand1 rows members root
-  demand1 = record {
-    valuesKeep = λ {message} {values} {values′} {handles} r p.
-        keeps (givenOf r) (Rules.readValues (Doing.message rows members message handles) root (length values)) values values′ (p .answer) (p .list);
-    objectsKeep = λ {message} {objects} {objects′} {handles} r p.
-        keeps (givenOf r) (Rules.readObjects (Doing.message rows members message handles) root (length objects)) objects objects′ (p .answer) (p .list);
-    bothKeep = λ {message} {values} {values′} {objects} {objects′} {handles} r p.
-        let read = Rules.read (Doing.message rows members message handles) root (length values) (length objects) in (
-          keeps (andThen (readingOf r) (λ n. accepted (n .values))) (valuesIn read) values values′ (rw (p .answer) (value-count read)) (p .values-list),
-          keeps (andThen (readingOf r) (λ n. accepted (n .objects))) (objectsIn read) objects objects′ (rw (p .answer) (object-count read)) (p .objects-list),
-        );
-    outputKeeps = λ {values} {out} {out′} r p.
-        let write = Rules.write (typeTable rows members) root values (length out) in
-        keeps (andThen (writtenOf r) (λ n. accepted (n .bytes))) (andThen write (λ w. accepted (w .bytes))) out out′ (rw (p .answer) (byte-count write)) (p .output);
-  }
 
 -- ---- given room
 
@@ -105,6 +87,16 @@ just-list : (given : Answer (List ℕ)) (list : List ℕ) → givenAs (lengthOf 
     → given ≡ accepted list
 just-list (accepted xs) list e l = let n : length xs ≡ length list = cc in ap accepted (fills xs list n l)
 just-list (refused f) list e l = absurd (let z : _≡_ {A = ℕ} 0 1 = cc in omega arith)
+
+just-lists : (given : Answer Lists) (values objects : List ℕ) → readingAs (lengthsOf given) ≡ Both.Accepted (record { values = length values; objects = length objects })
+    → lentAfter (valuesIn given) values ≡ values ++ drop (length values) values → lentAfter (objectsIn given) objects ≡ objects ++ drop (length objects) objects
+    → given ≡ accepted (record { values = values; objects = objects })
+just-lists (accepted lists) values objects e l k =
+    let s : _≡_ {A = Lengths} (record { values = length (lists .values); objects = length (lists .objects) }) (record { values = length values; objects = length objects }) = cc in
+    let v : lists .values ≡ values = fills (lists .values) values (ap (λ (z : Lengths). z .values) s) l in
+    let o : lists .objects ≡ objects = fills (lists .objects) objects (ap (λ (z : Lengths). z .objects) s) k in
+    rw (← v, ← o)
+just-lists (refused f) values objects e l k = absurd (let z : _≡_ {A = ℕ} 0 1 = cc in omega arith)
 
 just-message : (given : Answer Rules.Written) (message : List ℕ) (handles : ℕ) → writtenAs (sizesOf given) ≡ Whole.Accepted (record { bytes = length message; handles = handles })
     → outputAfter given message ≡ message ++ drop (length message) message → given ≡ accepted (record { bytes = message; handles = handles })
@@ -126,6 +118,11 @@ module _ (rows members : List ℕ) (root : ℕ) where
   is-listed-as : {message objects : List ℕ} {handles : ℕ} → HasObjects table root message handles objects → IsListedAs rows members root message handles objects
   is-listed-as v lent lent′ r room p = let e = v (length lent) room in (given-accepted r (p .answer ∙ rw e), p .list ∙ rw e)
 
+  is-read-both-as : {message values objects : List ℕ} {handles : ℕ} → HasBoth table root message handles values objects → IsReadBothAs rows members root message handles values objects
+  is-read-both-as b lent lent′ lentObjects lentObjects′ r room room₂ p =
+      let e = b (length lent) (length lentObjects) room room₂ in
+      (reading-accepted r (p .answer ∙ rw e), p .values-list ∙ rw e, p .objects-list ∙ rw e)
+
   is-written-as : {message values : List ℕ} {handles : ℕ} → IsWrittenTo table root values message handles → IsWrittenAs rows members root values message handles
   is-written-as w out out′ r room p = let e = w (length out) room in (written-accepted r (p .answer ∙ rw e), p .output ∙ rw e)
 
@@ -133,15 +130,28 @@ module _ (rows members : List ℕ) (root : ℕ) where
 
   has-value : (message : List ℕ) (handles : ℕ) (values : List ℕ) → IsReadAs rows members root message handles values → HasValue table root message handles values
   has-value message handles values i room fits =
-      let m = Doing.message rows members message handles in
+      let m = Doing.message (typeTable rows members) message handles in
       let given = Rules.readValues m root (length values) in
-      let q = i values (lentAfter given values) (givenAs (lengthOf given)) (omega arith) (record { answer = given-as (lengthOf given); list = refl }) in
+      let e = given-as (lengthOf given) in
+      let q = i values (lentAfter given values) (givenAs (lengthOf given)) (omega arith) (record { answer = e; list = refl; numbers = given-numbers (givenAs (lengthOf given)) given e }) in
       values-more m root (length values) room (just-list given values (q .0) (q .1)) fits
+
+  both-given : (message : List ℕ) (handles : ℕ) (values objects : List ℕ) → IsReadBothAs rows members root message handles values objects
+      → HasValue table root message handles values × HasObjects table root message handles objects
+  both-given message handles values objects i =
+      let m = Doing.message (typeTable rows members) message handles in
+      let given = Rules.read m root (length values) (length objects) in
+      let e = reading-as (lengthsOf given) in
+      let q = i values (lentAfter (valuesIn given) values) objects (lentAfter (objectsIn given) objects) (readingAs (lengthsOf given)) (omega arith) (omega arith)
+      (record { answer = e; values-list = refl; objects-list = refl; numbers = reading-numbers (readingAs (lengthsOf given)) given e }) in
+      let each = each-of m root (length values) (length objects) (just-lists given values objects (q .0) (q .1) (q .2)) in
+      (λ room fits. values-more m root (length values) room (each .values) fits, λ room fits. objects-more m root (length objects) room (each .objects) fits)
 
   is-written-to : (message : List ℕ) (handles : ℕ) (values : List ℕ) → IsWrittenAs rows members root values message handles → IsWrittenTo table root values message handles
   is-written-to message handles values i room fits =
       let given = Rules.write table root values (length message) in
-      let q = i message (outputAfter given message) (writtenAs (sizesOf given)) (omega arith) (record { answer = written-as (sizesOf given); output = refl }) in
+      let e = written-as (sizesOf given) in
+      let q = i message (outputAfter given message) (writtenAs (sizesOf given)) (omega arith) (record { answer = e; output = refl; numbers = written-numbers (writtenAs (sizesOf given)) given e }) in
       write-more table root values (length message) room (just-message given message handles (q .0) (q .1)) fits
 
   -- ---- demands 2 and 3
@@ -159,7 +169,10 @@ module _ (rows members : List ℕ) (root : ℕ) where
           λ q. let w = exactly .0 (sym (p .answer) ∙ ap verdictOf q) in (w .0, is-written-as (w .1)),
           λ w. verdict-accepted r (p .answer ∙ exactly .1 (w .0, is-written-to message handles (w .0) (w .1))),
         );
-    readingGivesTheValue = λ message handles values w. is-read-as (two .readingGivesTheValue message handles values (is-written-to message handles values w));
+    readingGivesTheValue = λ message handles values w.
+        let given = two .readingGivesTheValue message handles values (is-written-to message handles values w) in
+        (is-read-as (given .0), (given .1 .0, is-read-both-as (given .1 .1)));
+    readersAgree = λ message handles values objects b. let each = both-given message handles values objects b in (is-read-as (each .0), is-listed-as (each .1));
     writingGivesTheMessage = λ message handles values oct v. is-written-as (two .writingGivesTheMessage message handles values oct (has-value message handles values v));
   }
 
@@ -172,28 +185,46 @@ module _ (rows members : List ℕ) (root : ℕ) where
         traceIsTheWalks = c .traceIsTheWalks;
         valuesAreRead = is-read-as (c .hasValue);
         objectsAreListed = is-listed-as (c .hasObjects);
+        bothAreRead = is-read-both-as (c .hasBoth);
         roundTrip = is-written-as (c .roundTrip);
         objectsAreClaims = c .objectsAreClaims;
         unknownContentIsAnObject = c .unknownContentIsAnObject;
         objectsTile = c .objectsTile;
+        fillsAreZero = c .fillsAreZero;
         handlesAddUp = c .handlesAddUp;
+        presentHandlesAreOnes = c .presentHandlesAreOnes;
       }
 
-  written-back : (message : List ℕ) (handles : ℕ) → Octets message → (lent lent′ : List ℕ) (count : ℕ) (given : Answer (List ℕ))
-      → Rules.readValues (Doing.message rows members message handles) root (length lent) ≡ given → accepted count ≡ lengthOf given → lent′ ≡ lentAfter given lent
+  -- What was given into a list is written to the message.
+  written-back : (message : List ℕ) (handles : ℕ) → Octets message → (lent lent′ list : List ℕ) (count : ℕ)
+      → Rules.readValues (Doing.message (typeTable rows members) message handles) root (length lent) ≡ accepted list → length list ≡ count → lent′ ≡ list ++ drop (length list) lent
       → IsWrittenAs rows members root (take count lent′) message handles
-  written-back message handles oct lent lent′ count (accepted list) e n l =
-      let long : length list ≡ count = cc in
+  written-back message handles oct lent lent′ list count e long l =
       let read : take count lent′ ≡ list = rw l (take-at list (drop (length list) lent) count long) in
       rw read
       (is-written-as (two .writingGivesTheMessage message handles list oct
-      (λ room fits. values-more (Doing.message rows members message handles) root (length lent) room e fits)))
-  written-back message handles oct lent lent′ count (refused f) e n l = absurd (let z : _≡_ {A = ℕ} 0 1 = cc in omega arith)
+      (λ room fits. values-more (Doing.message (typeTable rows members) message handles) root (length lent) room e fits)))
+
+  values-back : (message : List ℕ) (handles : ℕ) → Octets message → (lent lent′ : List ℕ) (count : ℕ) (given : Answer (List ℕ))
+      → Rules.readValues (Doing.message (typeTable rows members) message handles) root (length lent) ≡ given → accepted count ≡ lengthOf given → lent′ ≡ lentAfter given lent
+      → IsWrittenAs rows members root (take count lent′) message handles
+  values-back message handles oct lent lent′ count (accepted list) e n l = let long : length list ≡ count = cc in written-back message handles oct lent lent′ list count e long l
+  values-back message handles oct lent lent′ count (refused f) e n l = absurd (let z : _≡_ {A = ℕ} 0 1 = cc in omega arith)
+
+  both-back : (message : List ℕ) (handles : ℕ) → Octets message → (lent lent′ : List ℕ) (room : ℕ) (counts : Lengths) (given : Answer Lists)
+      → Rules.read (Doing.message (typeTable rows members) message handles) root (length lent) room ≡ given → accepted counts ≡ lengthsOf given → lent′ ≡ lentAfter (valuesIn given) lent
+      → IsWrittenAs rows members root (take (counts .values) lent′) message handles
+  both-back message handles oct lent lent′ room counts (accepted lists) e n l =
+      let long : _≡_ {A = Lengths} (record { values = length (lists .values); objects = length (lists .objects) }) counts = cc in
+      written-back message handles oct lent lent′ (lists .values) (counts .values) (each-of (Doing.message (typeTable rows members) message handles) root (length lent) room e .values)
+      (ap (λ (z : Lengths). z .values) long) l
+  both-back message handles oct lent lent′ room counts (refused f) e n l = absurd (let z : _≡_ {A = ℕ} 0 1 = cc in omega arith)
 
   pub demand3 : Demand3 rows members root
   demand3 = record {
     equalValuesExactlyWhenEqual = λ message message₂ handles handles₂ values values₂ oct oct₂ v v₂.
         three .equalValuesExactlyWhenEqual message message₂ handles handles₂ values values₂ oct oct₂ (has-value message handles values v) (has-value message₂ handles₂ values₂ v₂);
     canonical = λ message handles oct p. canonical-of message handles (three .canonical message handles oct (sym (p .answer)));
-    roundTrip = λ message handles oct lent lent′ count p. written-back message handles oct lent lent′ count _ refl (p .answer) (p .list);
+    roundTrip = λ message handles oct lent lent′ count p. values-back message handles oct lent lent′ count _ refl (p .answer) (p .list);
+    roundTripOfBoth = λ message handles oct lent lent′ lentObjects lentObjects′ counts p. both-back message handles oct lent lent′ (length lentObjects) counts _ refl (p .answer) (p .values-list);
   }

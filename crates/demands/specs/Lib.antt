@@ -1,3 +1,5 @@
 pub mod Promises
-pub mod Demands
 pub mod Trips
+pub mod OtherPromises
+pub mod Demand1
+pub mod Demands

@@ -12,12 +12,15 @@ use Rattle.rules.specs.declared.Fault.{Fault}
 use Rattle.rules.specs.declared.Place.the-variants.{Amount}
 use Rattle.rules.specs.Refusals.{fault, Answer, accepted, refused, andThen, lentAfter}
 use Rattle.rules.specs.Bytes.{bytesOf}
-use Rattle.rules.specs.Answers.{requireRoom}
+use Rattle.rules.specs.Answers.{requireRoom, numbersOf, counted}
 use Rattle.rules.specs.Header.{requireOrdinal, headerBytes, writeHeader}
 use Rattle.header.specs.declared.Header.{Header}
 use Rattle.header.specs.declared.Ordinal.{Ordinal}
 use Rattle.header.specs.declared.Ordinal.the-variants.{Allowed, Refused}
-use Rattle.header.specs.Meaning.{headerOf, ordinalOf, byteCount}
+use Rattle.header.specs.declared.HeaderWritten.{HeaderWritten}
+use Rattle.header.specs.declared.HeaderWritten.the-variants as Write
+use Rattle.header.specs.Meaning.{headerOf, ordinalOf, byteCount, writtenOf, writtenNumbers}
+use Rattle.header.proofs.Numbers.{written-numbers}
 use Rattle.header.proofs.Reading.{ordinal-then}
 
 -- six stores, one after the other
@@ -40,11 +43,17 @@ header-lent h out room =
 
 module _ (h : Header) (out : List ℕ) where
   -- what the writer answers, and what it leaves in the output
-  abbrev pub Wrote : (answer : Answer ℕ) (after : List ℕ) → Type 0
-  Wrote answer after = (answer ≡ byteCount (writeHeader (headerOf h) (length out))) × (after ≡ lentAfter (writeHeader (headerOf h) (length out)) out)
+  abbrev pub Wrote : HeaderWritten → (after : List ℕ) → Type 0
+  Wrote r after =
+      (writtenOf r ≡ byteCount (writeHeader (headerOf h) (length out)))
+      × ((after ≡ lentAfter (writeHeader (headerOf h) (length out)) out) × (writtenNumbers r ≡ numbersOf 1 counted (writeHeader (headerOf h) (length out))))
 
-  refused-as : {f : Fault} → writeHeader (headerOf h) (length out) ≡ refused f → Wrote (refused f) out
-  refused-as e = (rw e, rw e)
+  wrote : (r : HeaderWritten) {after : List ℕ} → writtenOf r ≡ byteCount (writeHeader (headerOf h) (length out))
+      → after ≡ lentAfter (writeHeader (headerOf h) (length out)) out → Wrote r after
+  wrote r e left = (e, (left, written-numbers r (writeHeader (headerOf h) (length out)) e))
+
+  refused-as : {f : Fault} → writeHeader (headerOf h) (length out) ≡ refused f → Wrote (Write.Refused f) out
+  refused-as {f} e = wrote (Write.Refused f) (rw e) (rw e)
 
   module _ (ordinal : Ordinal) (judged : ordinalOf ordinal ≡ requireOrdinal (headerOf h) (accepted tt)) where
     judged-writing : writeHeader (headerOf h) (length out) ≡ andThen (ordinalOf ordinal) (λ passed. requireRoom 16 (length out) (accepted (headerBytes (headerOf h))))
@@ -53,13 +62,13 @@ module _ (h : Header) (out : List ℕ) where
         ordinal-then (headerOf h) (requireRoom 16 (length out) (accepted (headerBytes (headerOf h))))
         ∙ ap (λ (a : Answer (Unit {0})). andThen a (λ passed. requireRoom 16 (length out) (accepted (headerBytes (headerOf h))))) (sym judged)
 
-    pub ordinal-refused : {f : Fault} → ordinal ≡ Refused f → Wrote (refused f) out
+    pub ordinal-refused : {f : Fault} → ordinal ≡ Refused f → Wrote (Write.Refused f) out
     ordinal-refused e = refused-as (rw (judged-writing, e))
 
-    pub room-refused : ordinal ≡ Allowed → length out < 16 → Wrote (refused (fault 22 (Amount 16))) out
+    pub room-refused : ordinal ≡ Allowed → length out < 16 → Wrote (Write.Refused (fault 22 (Amount 16))) out
     room-refused e room = refused-as (simp (judged-writing, e, lt-leb _ _ room))
 
-    pub header-written : {after : List ℕ} → ordinal ≡ Allowed → 16 ≤ length out → after ≡ sets out 0 (headerBytes (headerOf h)) → Wrote (accepted 16) after
+    pub header-written : {after : List ℕ} → ordinal ≡ Allowed → 16 ≤ length out → after ≡ sets out 0 (headerBytes (headerOf h)) → Wrote (Write.Bytes 16) after
     header-written e room stored =
         let written : writeHeader (headerOf h) (length out) ≡ accepted (headerBytes (headerOf h)) = simp (judged-writing, e, le-leb _ _ room) in
-        (rw (written, length-header), rw (written, stored) (header-lent h out room))
+        wrote (Write.Bytes 16) (rw (written, length-header)) (rw (written, stored) (header-lent h out room))

@@ -3,7 +3,8 @@
 use mathlib.Core.List.{List, [], _∷_}
 use Prim.Native.Nat.{ℕ, _+_}
 use lib.ListN.{length}
-use Rattle.rules.specs.Refusals.{Answer, accepted, refused, andThen}
+use Rattle.rules.specs.Refusals.{placeNumber, Answer, accepted, refused, andThen}
+use Rattle.rules.specs.Answers.{Numbers}
 use Rattle.rules.specs.Header as Rules
 use Rattle.header.specs.declared.Header.{Header}
 use Rattle.header.specs.declared.HeaderAnswer.{HeaderAnswer}
@@ -20,6 +21,11 @@ abbrev pub answerOf : HeaderAnswer → Answer Rules.Header
 answerOf (Read.Accepted h) = accepted (headerOf h)
 answerOf (Read.Refused f) = refused f
 
+-- Document 01's number, place and values of each case.
+abbrev pub answerNumbers : HeaderAnswer → Numbers
+answerNumbers (Read.Accepted h) = record { number = 0; place = 0; values = h .transaction ∷ h .flag0 ∷ h .flag1 ∷ h .flag2 ∷ h .ordinal ∷ [] }
+answerNumbers (Read.Refused f) = record { number = f .number; place = placeNumber (f .place); values = 0 ∷ 0 ∷ 0 ∷ 0 ∷ 0 ∷ [] }
+
 -- Where the part handed back starts, by block and offset: at byte 16 of the message itself; on a refusal, where the message starts.
 abbrev pub bodyStart : Answer Rules.Header → (message : ℕ × ℕ) → ℕ × ℕ
 bodyStart (accepted h) message = (message .0, 16 + message .1)
@@ -32,6 +38,11 @@ byteCount answer = andThen answer (λ bytes. accepted (length bytes))
 abbrev pub writtenOf : HeaderWritten → Answer ℕ
 writtenOf (Write.Bytes count) = accepted count
 writtenOf (Write.Refused f) = refused f
+
+-- Document 01's number, place and values of each case.
+abbrev pub writtenNumbers : HeaderWritten → Numbers
+writtenNumbers (Write.Bytes count) = record { number = 0; place = 0; values = count ∷ [] }
+writtenNumbers (Write.Refused f) = record { number = f .number; place = placeNumber (f .place); values = 0 ∷ [] }
 
 -- The tests of the ordinal, with nothing after them.
 abbrev pub ordinalOf : Ordinal → Answer (Unit {0})

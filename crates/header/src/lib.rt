@@ -6,8 +6,9 @@ ghost use lib.ListN.{length};
 ghost use lib.Seq.{sets};
 ghost use Rattle.rules.specs.declared.Place.the-variants.{Byte};
 ghost use Rattle.rules.specs.Refusals.{fault, accepted, lentAfter};
+ghost use Rattle.rules.specs.Answers.{numbersOf, counted};
 ghost use Rattle.rules.specs.Header as Rules;
-ghost use Rattle.header.specs.Meaning.{headerOf, answerOf, byteCount, bodyStart, writtenOf, ordinalOf};
+ghost use Rattle.header.specs.Meaning.{headerOf, answerOf, answerNumbers, byteCount, bodyStart, writtenOf, writtenNumbers, ordinalOf};
 
 // The ordinal of an epitaph, all ones.
 const EPITAPH: u64 = 18446744073709551615;
@@ -78,7 +79,8 @@ fn header_in(message: &[u8]) -> Header
 
 // 3 at 0, over 65,536 bytes; 6 at 0, under 16; 23 at 7, another magic byte than 1; 24; 25; 20 at 16, an epitaph with a body.
 pub fn read_header(message: &[u8]) -> HeaderAnswer
-    ensures { λ r. ⌜ answerOf r ≡ Rules.readHeader (now (message .entry)) ⌝ }
+    ensures answer { λ r. ⌜ answerOf r ≡ Rules.readHeader (now (message .entry)) ⌝ }
+    ensures numbers { λ r. ⌜ answerNumbers r ≡ numbersOf 5 Rules.fields (Rules.readHeader (now (message .entry))) ⌝ }
 {
     if 65536 < message.len() {
         return HeaderAnswer::Refused(at_byte(3, 0));
@@ -130,6 +132,7 @@ fn store_header(header: Header, out: &mut [u8])
 pub fn write_header(header: Header, out: &mut [u8]) -> HeaderWritten
     ensures answer { λ r. ⌜ writtenOf r ≡ byteCount (Rules.writeHeader (headerOf header) (length (now (out .entry)))) ⌝ }
     ensures output { λ _. ⌜ now (out .exit) ≡ lentAfter (Rules.writeHeader (headerOf header) (length (now (out .entry)))) (now (out .entry)) ⌝ }
+    ensures numbers { λ r. ⌜ writtenNumbers r ≡ numbersOf 1 counted (Rules.writeHeader (headerOf header) (length (now (out .entry)))) ⌝ }
 {
     let judged = judge_ordinal(header);
     match judged {

@@ -13,22 +13,25 @@ use Rattle.rules.specs.declared.Layout.{Layout}
 use Rattle.rules.specs.TypeTable.{TypeTable, bAt, cAt, rowOf, FidlType, bool, number, handle, array, vector, string, struct, box, table, union, none, typeOf, memberRows}
 use Rattle.rules.specs.Sizes.{largestAlignment, fieldsFrom, fieldsOf, fieldsSize, structSize, layoutAs, layoutBelow, layoutOf}
 use Rattle.rules.specs.Sound.{structMembers, rowFits, rowSound}
+use Rattle.layout.specs.Running.{Alignment, one, two, four, eight}
 use Rattle.layout.specs.Kept.{SoundBelow}
-use Rattle.layout.proofs.Rows.{both, sound-fits, sound-size, layout-below, layout-outside, layout-step, array-fits, struct-fits, member-fits}
+use Rattle.rules.proofs.Tests.{both}
+use Rattle.layout.proofs.Rows.{sound-fits, sound-size, layout-below, layout-outside, layout-step, array-fits, struct-fits, member-fits}
 
 -- ---- alignments
-
-pub data Alignment : ℕ → Type 0 where
-  one : Alignment 1
-  two : Alignment 2
-  four : Alignment 4
-  eight : Alignment 8
 
 pub alignment-bounds : {a : ℕ} → Alignment a → (1 ≤ a) × (a ≤ 8)
 alignment-bounds one = omega arith
 alignment-bounds two = omega arith
 alignment-bounds four = omega arith
 alignment-bounds eight = omega arith
+
+-- The one that is left.
+pub eight-left : {a : ℕ} → Alignment a → (a ≡ 1 → ⊥) → (a ≡ 2 → ⊥) → (a ≡ 4 → ⊥) → a ≡ 8
+eight-left one not-one not-two not-four = absurd (not-one refl)
+eight-left two not-one not-two not-four = absurd (not-two refl)
+eight-left four not-one not-two not-four = absurd (not-four refl)
+eight-left eight not-one not-two not-four = refl
 
 width-cases : (w : ℕ) (w1 w2 w4 w8 : Bool) → eqb w 1 ≡ w1 → eqb w 2 ≡ w2 → eqb w 4 ≡ w4 → eqb w 8 ≡ w8
     → (w1 || w2 || w4 || w8) ≡ true → Alignment w
@@ -45,7 +48,7 @@ larger-case : (a b : ℕ) (le : Bool) → leb a b ≡ le → Alignment a → Ali
 larger-case a b true e p q = rw (max-eq-right (leb-true a b e)) q
 larger-case a b false e p q = rw (max-eq-left (le-of-lt (leb-false a b e))) p
 
-larger-alignment : {a b : ℕ} → Alignment a → Alignment b → Alignment (max a b)
+pub larger-alignment : {a b : ℕ} → Alignment a → Alignment b → Alignment (max a b)
 larger-alignment {a} {b} p q = larger-case a b (leb a b) refl p q
 
 number-alignment : (t : TypeTable) (row width : ℕ) → rowFits t row (number width) ≡ true → Alignment width

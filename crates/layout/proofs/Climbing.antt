@@ -1,35 +1,39 @@
--- Going up the rows of a type table, judging each and keeping its layout: what holds before each row.
+-- Going up the rows of a type table, judging each and keeping its layout: what holds before each row, and at the top.
 -- Assumes nothing.
 use mathlib.Core.Bool.{true, false}
 use mathlib.Core.List.{List}
-use mathlib.Core.Path.{_≡_, refl, ap, sym, _∙_}
+use mathlib.Core.Path.{_≡_, refl, ap, _∙_}
 use Prim.Native.Nat.{ℕ, zero, suc, _+_, _-_, _≤_, _<_}
 use native.Mathlib.Nat.{not-suc-le-zero}
 use native.Mathlib.Numerals.{add-one, sub-one}
 use native.Mathlib.Omega.{arith}
-use lib.ListN.{length, replicate, set}
+use lib.ListN.{length, set}
 use borrow.Author.Count.{below-none, below-more}
+use Rattle.rules.specs.declared.Fault.{Fault}
 use Rattle.rules.specs.declared.Place.the-variants.{Row}
 use Rattle.rules.specs.declared.Layout.{Layout}
 use Rattle.rules.specs.Refusals.{tableNotSound, fault, accepted, refused, require}
 use Rattle.rules.specs.TypeTable.{TypeTable, rowCount}
+use Rattle.rules.specs.Sizes.{layoutOf}
 use Rattle.rules.specs.Sound.{listsWhole, rowSound, rowsSound, soundness}
 use Rattle.layout.specs.declared.Soundness.{Soundness}
 use Rattle.layout.specs.declared.Soundness.the-variants.{Sound}
-use Rattle.layout.specs.declared.kept.Judged.{Judged}
-use Rattle.layout.specs.declared.kept.Judged.the-variants.{Laid, Bad}
-use Rattle.layout.specs.Answers.{verdictOf, keptSizes, keptAlignments}
-use Rattle.layout.specs.Kept.{KeptBelow, judged, refusedAt}
+use Rattle.layout.specs.declared.climb.Judged.{Judged}
+use Rattle.layout.specs.declared.climb.Judged.the-variants.{Laid, Bad}
+use Rattle.layout.specs.Answers.{verdictOf, keptSizes, keptAlignments, givenIfSound}
+use Rattle.layout.specs.Kept.{Zeroed, KeptBelow, judged}
 use Rattle.layout.proofs.Rows.{lists-whole}
 use Rattle.layout.proofs.Bounds.{Bounded, alignment-bounds, row-bounded, bounded}
-use Rattle.layout.proofs.Keeping.{part-start, part-next, part-sound, part-refused, judged-laid, judged-bad}
+use Rattle.layout.proofs.Keeping.{ZerosFrom, part-next, part-all, zeros-first, zeros-next, judged-laid, judged-bad}
 
--- The rows below `row` are sound and kept; the verdict hangs on the others.
+-- The rows below `row` are sound and kept, and nothing else is; the verdict hangs on the others.
 pub record Climbing (t : TypeTable) (row : ℕ) (sizes alignments : List ℕ) : Type 0 where
-  pub whole : listsWhole t ≡ true
+  pub lists : listsWhole t ≡ true
   pub within : row ≤ rowCount t
   pub verdict : soundness t ≡ rowsSound t row (rowCount t - row)
   pub kept : KeptBelow t row sizes alignments
+  pub size-zeros : ZerosFrom row sizes
+  pub alignment-zeros : ZerosFrom row alignments
 
 rows-step : (t : TypeTable) (row count : ℕ) → 0 < count
     → rowsSound t row count ≡ require (rowSound t row) (fault tableNotSound (Row row)) (rowsSound t (row + 1) (count - 1))
@@ -45,30 +49,33 @@ pub lists-refused : (t : TypeTable) → listsWhole t ≡ false → soundness t �
 unfolding soundness
 lists-refused t e = rw e
 
-pub climbing-first : (t : TypeTable) → listsWhole t ≡ true → Climbing t 0 (replicate 256 0) (replicate 256 0)
+pub climbing-first : (t : TypeTable) {sizes alignments : List ℕ} → listsWhole t ≡ true → Zeroed sizes → Zeroed alignments
+    → Climbing t 0 sizes alignments
 unfolding soundness
-climbing-first t e =
+climbing-first t e no-sizes no-alignments =
     record {
-      whole = e;
+      lists = e;
       within = omega arith;
       verdict = let all : rowCount t - 0 ≡ rowCount t = omega arith in rw (e, all);
       kept = record {
         sound = below-none (λ x. rowSound t x ≡ true);
-        size = part-start (λ l. l .size) t;
-        alignment = part-start (λ l. l .alignment) t;
+        size = below-none (λ x. _ ≡ layoutOf t x .size);
+        alignment = below-none (λ x. _ ≡ layoutOf t x .alignment);
       };
+      size-zeros = zeros-first no-sizes;
+      alignment-zeros = zeros-first no-alignments;
     }
 
 module _ {t : TypeTable} {row : ℕ} {sizes alignments : List ℕ} (c : Climbing t row sizes alignments) where
   pub few-rows : row ≤ 256
-  few-rows = omega (arith, c .within, lists-whole t (c .whole) .rows)
+  few-rows = omega (arith, c .within, lists-whole t (c .lists) .rows)
 
   pub few-members : length (t .members) ≤ 2048
-  few-members = lists-whole t (c .whole) .members
+  few-members = lists-whole t (c .lists) .members
 
   module _ (h : row < rowCount t) where
     pub row-kept : row < 256
-    row-kept = omega (arith, lists-whole t (c .whole) .rows)
+    row-kept = omega (arith, lists-whole t (c .lists) .rows)
 
     row-verdict : soundness t ≡ require (rowSound t row) (fault tableNotSound (Row row)) (rowsSound t (row + 1) (rowCount t - row - 1))
     row-verdict = c .verdict ∙ rows-step t row (rowCount t - row) (omega arith)
@@ -92,40 +99,40 @@ module _ {t : TypeTable} {row : ℕ} {sizes alignments : List ℕ} (c : Climbing
             let rest : rowCount t - row - 1 ≡ rowCount t - (row + 1) = omega arith in
             let kept = c .kept in
             record {
-              whole = c .whole;
+              lists = c .lists;
               within = omega arith;
               verdict = row-verdict ∙ rw (sound .0, rest);
               kept = record {
                 sound = below-more (λ x. rowSound t x ≡ true) row (kept .sound) (sound .0);
-                size = part-next (λ x. x .size) t row sizes (l .size) (kept .size) row-kept (ap (λ x. x .size) (sound .1));
-                alignment = part-next (λ x. x .alignment) t row alignments (l .alignment) (kept .alignment) row-kept (ap (λ x. x .alignment) (sound .1));
+                size = part-next (λ x. x .size) t row sizes (l .size) (kept .size) (c .size-zeros) row-kept (ap (λ x. x .size) (sound .1));
+                alignment = part-next (λ x. x .alignment) t row alignments (l .alignment) (kept .alignment) (c .alignment-zeros) row-kept (ap (λ x. x .alignment) (sound .1));
               };
+              size-zeros = zeros-next row sizes (l .size) (c .size-zeros);
+              alignment-zeros = zeros-next row alignments (l .alignment) (c .alignment-zeros);
             }
 
-  pub climbing-last : rowCount t ≤ row → (row ≡ rowCount t) × (soundness t ≡ accepted tt)
+  pub climbing-last : rowCount t ≤ row → (soundness t ≡ accepted tt) × ((sizes ≡ keptSizes t) × (alignments ≡ keptAlignments t))
+  unfolding keptSizes keptAlignments
   climbing-last h =
       let none : rowCount t - row ≡ 0 = omega arith in
-      (omega (arith, c .within), c .verdict ∙ rw none (rows-none t row))
+      let top : row ≡ rowCount t = omega (arith, c .within) in
+      let last : Climbing t (rowCount t) sizes alignments = rw top at c in
+      let size = part-all (λ l. l .size) t sizes (last .kept .size) (last .size-zeros) in
+      let alignment = part-all (λ l. l .alignment) t alignments (last .kept .alignment) (last .alignment-zeros) in
+      (c .verdict ∙ rw none (rows-none t row), (size, alignment))
 
--- ---- at the end
+-- ---- what is promised of the answer and of the arrays lent
 
--- What `prepare` promises of its answer and of the arrays lent.
-abbrev pub Promised : TypeTable → Soundness → (sizes alignments : List ℕ) → Type 0
-Promised t r sizes alignments = (verdictOf r ≡ soundness t) × ((sizes ≡ keptSizes t) × (alignments ≡ keptAlignments t))
+abbrev pub Promised : TypeTable → Soundness → (sizes alignments sizes-before alignments-before : List ℕ) → Type 0
+Promised t r sizes alignments sizes-before alignments-before =
+    (verdictOf r ≡ soundness t)
+    × ((sizes ≡ givenIfSound t (keptSizes t) sizes-before) × (alignments ≡ givenIfSound t (keptAlignments t) alignments-before))
 
-pub refused-promised : (t : TypeTable) (r : Soundness) (row : ℕ) → r ≡ refusedAt row
-    → soundness t ≡ refused (fault tableNotSound (Row row)) → Promised t r (replicate 256 0) (replicate 256 0)
-unfolding keptSizes keptAlignments
-refused-promised t r row e bad =
-    let f = fault tableNotSound (Row row) in
-    rw e (sym bad, (part-refused (λ l. l .size) t f bad, part-refused (λ l. l .alignment) t f bad))
+pub refused-promised : (t : TypeTable) (r : Soundness) (f : Fault) {sizes alignments sizes-before alignments-before : List ℕ}
+    → verdictOf r ≡ refused f → soundness t ≡ refused f → sizes ≡ sizes-before → alignments ≡ alignments-before
+    → Promised t r sizes alignments sizes-before alignments-before
+refused-promised t r f e bad same same′ = rw bad (e, (same, same′))
 
-pub sound-promised : {t : TypeTable} {row : ℕ} {sizes alignments : List ℕ} → Climbing t row sizes alignments → rowCount t ≤ row
-    → Promised t Sound sizes alignments
-unfolding keptSizes keptAlignments
-sound-promised {t} {row} {sizes} {alignments} c h =
-    let last = climbing-last c h in
-    let k : KeptBelow t (rowCount t) sizes alignments = rw (last .0) at (c .kept) in
-    let size = part-sound (λ l. l .size) t sizes (last .1) (k .size) in
-    let alignment = part-sound (λ l. l .alignment) t alignments (last .1) (k .alignment) in
-    (sym (last .1), (size, alignment))
+pub sound-promised : (t : TypeTable) {sizes alignments : List ℕ} (sizes-before alignments-before : List ℕ) → soundness t ≡ accepted tt
+    → (sizes ≡ keptSizes t) × (alignments ≡ keptAlignments t) → Promised t Sound sizes alignments sizes-before alignments-before
+sound-promised t sizes-before alignments-before sound kept = rw sound (refl, kept)

@@ -5,4 +5,8 @@ pub mod Elements
 pub mod Members
 pub mod Keeping
 pub mod Climbing
+pub mod Numbers
 pub mod Roots
+pub mod ByKind
+pub mod Below
+pub mod Readiness

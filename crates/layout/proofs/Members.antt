@@ -9,10 +9,10 @@ use Rattle.rules.specs.TypeTable.{TypeTable, memberCount, kindAt, aAt, bAt, row
 use Rattle.rules.specs.Sizes.{layout, layoutAs, layoutBelow, layoutOf, structSize, fieldsOf, fieldsFrom, largestAlignment}
 use Rattle.rules.specs.Sound.{structMembers, rowFits}
 use Rattle.layout.specs.Kept.{Fits, SoundBelow}
-use Rattle.layout.specs.Running.{placed, placedAll, closed}
+use Rattle.layout.specs.Running.{Alignment, one, placed, placedAll, closed}
 use Rattle.layout.proofs.Rows.{layout-below, layout-step, struct-fits, member-fits}
 use Rattle.layout.proofs.Structs.{round-most, struct-closed, placed-step, placed-none}
-use Rattle.layout.proofs.Bounds.{Bounded, alignment-bounds, bounded, aligned-below}
+use Rattle.layout.proofs.Bounds.{Bounded, alignment-bounds, larger-alignment, bounded, aligned-below}
 
 -- A row of kind 7 is a struct.
 struct-row : (t : TypeTable) (row : ℕ) → kindAt t row ≡ 7 → typeOf t row ≡ struct (aAt t row) (bAt t row)
@@ -31,8 +31,7 @@ pub record Placing (t : TypeTable) (row next left : ℕ) (before : Layout) : Typ
   pub members : structMembers t row next left ordinal ≡ true
   pub few : next + left ≤ 1024
   pub end : before .size + 65536 * left ≤ 67108864
-  pub least : 1 ≤ before .alignment
-  pub most : before .alignment ≤ 8
+  pub aligned : Alignment (before .alignment)
 
 pub placing-first : (t : TypeTable) (row : ℕ) → SoundBelow t row → Fits t row → kindAt t row ≡ 7 → memberCount t ≤ 1024 → 0 < bAt t row
     → Placing t row (aAt t row) (bAt t row) (layout 0 1)
@@ -48,8 +47,7 @@ placing-first t row sound fits kind members some =
       members = parts .members;
       few = omega (arith, parts .exist);
       end = omega (arith, parts .exist);
-      least = omega arith;
-      most = omega arith;
+      aligned = one;
     }
 
 module _ {t : TypeTable} {row next left : ℕ} {before : Layout} (p : Placing t row next left before) where
@@ -57,8 +55,8 @@ module _ {t : TypeTable} {row next left : ℕ} {before : Layout} (p : Placing t 
   placing-last none = sym (p .whole ∙ rw (none, placed-none))
 
   -- What closing the struct after its last member asks for.
-  pub closeable : (0 < before .alignment) × (before .alignment ≤ 8) × (before .size ≤ 67108864)
-  closeable = omega (arith, p .end, p .least, p .most)
+  pub closeable : Alignment (before .alignment) × (before .size ≤ 67108864)
+  closeable = (p .aligned, omega (arith, p .end))
 
   module _ (some : 0 < left) where
     pub next-below : rowOf t next < row
@@ -66,16 +64,16 @@ module _ {t : TypeTable} {row next left : ℕ} {before : Layout} (p : Placing t 
 
     module _ (member : Layout) (e : member ≡ layoutOf t (rowOf t next)) where
       -- What placing the next member asks for.
-      pub placeable : (0 < member .alignment) × (member .alignment ≤ 8) × (member .size ≤ 65528) × (before .size ≤ 67108864)
+      pub placeable : Alignment (member .alignment) × (member .size ≤ 65528) × (before .size ≤ 67108864)
       placeable =
           let b : Bounded member = rw e (bounded t row (p .sound) (rowOf t next) next-below) in
-          let alignment = alignment-bounds (b .alignment) in
-          omega (arith, b .most, p .end)
+          (b .alignment, b .most, omega (arith, p .end))
 
       pub placing-next : Placing t row (next + 1) (left - 1) (placed before member)
       placing-next =
           let inner = layoutBelow t row in
           let same : inner (rowOf t next) ≡ member = layout-below t row (rowOf t next) next-below ∙ sym e in
+          let bounds = alignment-bounds (placeable .0) in
           let rest : Layout → Layout = λ l. closed (placedAll inner (placed before l) (memberRows t (next + 1) (left - 1))) in
           record {
             sound = p .sound;
@@ -83,7 +81,6 @@ module _ {t : TypeTable} {row next left : ℕ} {before : Layout} (p : Placing t 
             ordinal = p .ordinal + 1;
             members = member-fits t row next left (p .ordinal) some (p .members) .rest;
             few = omega (arith, p .few);
-            end = omega (arith, p .end, placeable, round-most (before .size) (placeable .0));
-            least = omega (arith, p .least);
-            most = omega (arith, p .most, placeable);
+            end = omega (arith, p .end, placeable .1, bounds, round-most (before .size) (bounds .0));
+            aligned = larger-alignment (p .aligned) (placeable .0);
           }

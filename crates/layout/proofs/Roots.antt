@@ -8,10 +8,10 @@ use borrow.Author.Tests.{eqb-true, ltb-true}
 use lib.Dec.{eqb, ltb}
 use lib.ListN.{length, getD}
 use Rattle.rules.specs.Refusals.{if_then_else_}
-use Rattle.rules.specs.TypeTable.{TypeTable, rowCount, aAt, bAt, cAt, bool, number, handle, array, vector, string, box, none, typeAs, typeOf, typeTable}
+use Rattle.rules.specs.TypeTable.{TypeTable, rowCount, kindAt, aAt, bAt, cAt, bool, number, handle, array, vector, string, box, none, typeAs, typeOf}
 use Rattle.rules.specs.Sound.{rootKind, rootAllowed}
 use Rattle.layout.specs.Answers.{RootIs}
-use Rattle.layout.proofs.Rows.{both}
+use Rattle.rules.proofs.Tests.{both}
 
 -- Of the other kinds none is a root.
 other-kinds : (k₁ k₂ k₃ k₄ k₅ k₆ k₈ : Bool) (a b : ℕ) (o : Bool)
@@ -39,9 +39,8 @@ root-kind kind a b c = go (eqb kind 7) (eqb kind 9) (eqb kind 10) refl refl refl
 pub root-read : (rows : List ℕ) (root : ℕ) {kind : ℕ} → kind ≡ getD rows (root * 4) 0
     → RootIs rows root (ltb root (length rows / 4) && (eqb kind 7 || eqb kind 9 || eqb kind 10))
 unfolding rootAllowed typeOf
-root-read rows root e members =
-    let t = typeTable rows members in
-    rw e (ap (λ b. ltb root (length rows / 4) && b) (root-kind (getD rows (root * 4) 0) (aAt t root) (bAt t root) (cAt t root)))
+root-read rows root e t same =
+    rw (e, ← same) (ap (λ b. ltb root (rowCount t) && b) (root-kind (kindAt t root) (aAt t root) (bAt t root) (cAt t root)))
 
 -- A root is a row in use.
 pub root-in-use : (t : TypeTable) (root : ℕ) → rootAllowed t root ≡ true → root < rowCount t

@@ -9,6 +9,7 @@ use native.Mathlib.Omega.{arith}
 use lib.Dec.{eqb, leb, ltb}
 use lib.ListN.{length}
 use borrow.Author.Tests.{eqb-true, eqb-false, leb-true, ltb-true, ne-eqb}
+use Rattle.rules.proofs.Tests.{both}
 use Rattle.rules.specs.declared.Fault.{Fault}
 use Rattle.rules.specs.declared.Layout.{Layout}
 use Rattle.rules.specs.Refusals.{Answer, accepted, refused, require, if_then_else_}
@@ -56,11 +57,6 @@ unfolding layoutOf
 layout-step t row = refl
 
 -- ---- tests that passed
-
--- Both tests of a conjunction that holds; the test of an answer that is accepted.
-pub both : (a b : Bool) → (a && b) ≡ true → (a ≡ true) × (b ≡ true)
-both true b e = (refl, e)
-both false b e = (e, let z : false ≡ true = e in cc)
 
 pub required : {A : Type 0} (test : Bool) (f : Fault) (a : Answer A) (x : A) → require test f a ≡ accepted x
     → (test ≡ true) × (a ≡ accepted x)

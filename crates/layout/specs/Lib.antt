@@ -1,3 +1,4 @@
 pub mod Answers
 pub mod Running
 pub mod Kept
+pub mod Ready

@@ -1,42 +1,82 @@
-// Size and alignment of a row of a sound table, by recursion on its element or its members, the row number falling.
+// Size and alignment of a row by recursion on its element or its members, the row number falling, down to the rows whose
+// sizes and alignments are kept.
 use crate::sizes::array_layout;
 use crate::sizes::close;
 use crate::sizes::fixed_layout;
 use crate::sizes::place;
-use crate::table::a_at;
-use crate::table::b_at;
-use crate::table::kind_at;
-use crate::table::row_of;
 use rules::Layout;
 ghost use mathlib.Core.Path.{_≡_};
-ghost use Prim.Native.Nat.{_<_};
-ghost use Rattle.rules.specs.Refusals.{accepted};
-ghost use Rattle.rules.specs.TypeTable.{typeTable, rowCount, kindAt};
-ghost use Rattle.rules.specs.Sizes.{layoutOf};
-ghost use Rattle.rules.specs.Sound.{soundness};
+ghost use lib.ListN.{getD};
+ghost use Rattle.rules.specs.TypeTable.{typeTable, kindAt};
+ghost use Rattle.rules.specs.Sizes.{layout, layoutOf};
+ghost use Rattle.layout.specs.Kept.{Layable};
 
-pub(crate) fn row_layout(rows: &[u32], members: &[u32], row: u32) -> Layout
-    requires { ⌜ soundness (typeTable (now rows) (now members)) ≡ accepted tt ⌝ }
-    requires { ⌜ row < rowCount (typeTable (now rows) (now members)) ⌝ }
+// What is kept of a row.
+pub(crate) fn kept_at(sizes: &[u32; 256], alignments: &[u32; 256], row: u32) -> Layout
+    ensures { λ r. ⌜ r ≡ layout (getD (now (sizes .entry)) row 0) (getD (now (alignments .entry)) row 0) ⌝ }
+{
+    let at = row as usize;
+    Layout {
+        size: words::number_at(sizes, at) as usize,
+        alignment: words::number_at(alignments, at) as usize,
+    }
+}
+
+// An element's or a member's row: below `kept` it is looked up, so that the row that names it takes one step a member.
+fn inner_layout(
+    rows: &[u32],
+    members: &[u32],
+    sizes: &[u32; 256],
+    alignments: &[u32; 256],
+    kept: u32,
+    row: u32,
+) -> Layout
+    requires { ⌜ Layable (typeTable (now rows) (now members)) kept row (now sizes) (now alignments) ⌝ }
     ensures { λ r. ⌜ r ≡ layoutOf (typeTable (now (rows .entry)) (now (members .entry))) row ⌝ }
 {
-    let kind = kind_at(rows, row);
-    let a = a_at(rows, row);
+    if row < kept {
+        return kept_at(sizes, alignments, row);
+    }
+    row_layout(rows, members, sizes, alignments, kept, row)
+}
+
+pub(crate) fn row_layout(
+    rows: &[u32],
+    members: &[u32],
+    sizes: &[u32; 256],
+    alignments: &[u32; 256],
+    kept: u32,
+    row: u32,
+) -> Layout
+    requires { ⌜ Layable (typeTable (now rows) (now members)) kept row (now sizes) (now alignments) ⌝ }
+    ensures { λ r. ⌜ r ≡ layoutOf (typeTable (now (rows .entry)) (now (members .entry))) row ⌝ }
+{
+    let kind = table::kind_at(rows, row as usize);
+    let a = table::a_at(rows, row as usize);
     match kind {
-        4 => array_layout(row_layout(rows, members, a), b_at(rows, row)),
-        7 => struct_layout(rows, members, row),
+        4 => array_layout(
+            inner_layout(rows, members, sizes, alignments, kept, a),
+            table::b_at(rows, row as usize),
+        ),
+        7 => struct_layout(rows, members, sizes, alignments, kept, row),
         _ => fixed_layout(kind, a),
     }
 }
 
-fn struct_layout(rows: &[u32], members: &[u32], row: u32) -> Layout
-    requires { ⌜ soundness (typeTable (now rows) (now members)) ≡ accepted tt ⌝ }
-    requires { ⌜ row < rowCount (typeTable (now rows) (now members)) ⌝ }
+fn struct_layout(
+    rows: &[u32],
+    members: &[u32],
+    sizes: &[u32; 256],
+    alignments: &[u32; 256],
+    kept: u32,
+    row: u32,
+) -> Layout
+    requires { ⌜ Layable (typeTable (now rows) (now members)) kept row (now sizes) (now alignments) ⌝ }
     requires { ⌜ kindAt (typeTable (now rows) (now members)) row ≡ 7 ⌝ }
     ensures { λ r. ⌜ r ≡ layoutOf (typeTable (now (rows .entry)) (now (members .entry))) row ⌝ }
 {
-    let mut next = a_at(rows, row);
-    let mut left = b_at(rows, row);
+    let mut next = table::a_at(rows, row as usize);
+    let mut left = table::b_at(rows, row as usize);
     if left == 0 {
         return Layout {
             size: 1,
@@ -48,7 +88,11 @@ fn struct_layout(rows: &[u32], members: &[u32], row: u32) -> Layout
         alignment: 1,
     };
     while 0 < left {
-        so_far = place(so_far, row_layout(rows, members, row_of(members, next)));
+        let inner = table::row_of(members, next as usize);
+        so_far = place(
+            so_far,
+            inner_layout(rows, members, sizes, alignments, kept, inner),
+        );
         next += 1;
         left -= 1;
     }

@@ -1,23 +1,15 @@
 // Whether a row has its line of the table of kinds (1): document 01, "The type table".
-use crate::table::a_at;
-use crate::table::b_at;
-use crate::table::c_at;
-use crate::table::kind_at;
-use crate::table::ordinal_at;
-use crate::table::row_of;
 ghost use mathlib.Core.Bool.{_&&_};
-ghost use mathlib.Core.List.{List};
 ghost use mathlib.Core.Path.{_≡_};
-ghost use Prim.Native.Nat.{ℕ, _≤_};
+ghost use Prim.Native.Nat.{_≤_};
 ghost use lib.ListN.{length};
-ghost use Rattle.rules.specs.TypeTable.{typeTable, typeOf};
+ghost use Rattle.rules.specs.TypeTable.{TypeTable, typeTable, typeOf};
 ghost use Rattle.rules.specs.Sound.{membersExist, structMembers, risingMembers, rowFits};
 
 // A struct's members exist, "struct ordinals are 1, 2, 3 and on", and its members' rows have smaller numbers than its own.
 fn struct_members(members: &[u32], row: u32, first: u32, count: u32) -> bool
     requires { ⌜ length (now members) ≤ 2048 ⌝ }
-    ensures { λ r. ⌜ ((rows : List ℕ) →
-        let t = typeTable rows (now (members .entry)) in
+    ensures { λ r. ⌜ ((t : TypeTable) → t .members ≡ now (members .entry) →
         r ≡ (membersExist t first count && structMembers t row first count 1)) ⌝ }
 {
     if members.len() / 2 < (first as usize) + (count as usize) {
@@ -27,7 +19,8 @@ fn struct_members(members: &[u32], row: u32, first: u32, count: u32) -> bool
     let mut left = count;
     let mut ordinal: u32 = 1;
     while 0 < left {
-        let good = (ordinal_at(members, next) == ordinal) & (row_of(members, next) < row);
+        let good = (table::ordinal_at(members, next as usize) == ordinal)
+            & (table::row_of(members, next as usize) < row);
         if !good {
             return false;
         }
@@ -53,8 +46,9 @@ fn rising_members(rows: &[u32], members: &[u32], first: u32, count: u32) -> bool
     let mut left = count;
     let mut before: u32 = 0;
     while 0 < left {
-        let ordinal = ordinal_at(members, next);
-        let good = (before < ordinal) & ((row_of(members, next) as usize) < row_count);
+        let ordinal = table::ordinal_at(members, next as usize);
+        let good = (before < ordinal)
+            & ((table::row_of(members, next as usize) as usize) < row_count);
         if !good {
             return false;
         }
@@ -72,10 +66,10 @@ pub(crate) fn row_fits(rows: &[u32], members: &[u32], row: u32) -> bool
         let t = typeTable (now (rows .entry)) (now (members .entry)) in
         ⌜ r ≡ rowFits t row (typeOf t row) ⌝ }
 {
-    let kind = kind_at(rows, row);
-    let a = a_at(rows, row);
-    let b = b_at(rows, row);
-    let c = c_at(rows, row);
+    let kind = table::kind_at(rows, row as usize);
+    let a = table::a_at(rows, row as usize);
+    let b = table::b_at(rows, row as usize);
+    let c = table::c_at(rows, row as usize);
     let row_count = rows.len() / 4;
     match kind {
         1 => (a == 0) & (b == 0) & (c == 0),
@@ -85,7 +79,10 @@ pub(crate) fn row_fits(rows: &[u32], members: &[u32], row: u32) -> bool
         5 => ((a as usize) < row_count) & (c <= 1),
         6 => (a == 0) & (c <= 1),
         7 => (c == 0) & struct_members(members, row, a, b),
-        8 => ((a as usize) < row_count) & (kind_at(rows, a) == 7) & (b == 0) & (c == 0),
+        8 => ((a as usize) < row_count)
+            & (table::kind_at(rows, a as usize) == 7)
+            & (b == 0)
+            & (c == 0),
         9 => (c == 0) & rising_members(rows, members, a, b),
         10 => (1 <= b) & (c <= 3) & rising_members(rows, members, a, b),
         _ => false,

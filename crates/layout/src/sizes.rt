@@ -1,25 +1,24 @@
 // Layouts made of other layouts: document 01, "Sizes".
 use rules::Layout;
-ghost use mathlib.Core.List.{List};
 ghost use mathlib.Core.Path.{_≡_};
-ghost use Prim.Native.Nat.{ℕ, _+_, _*_, _<_, _≤_, max};
+ghost use Prim.Native.Nat.{ℕ, _+_, _*_, _≤_, max};
 ghost use Rattle.rules.specs.declared.Layout.{Layout};
 ghost use Rattle.rules.specs.Bytes.{roundUp};
-ghost use Rattle.rules.specs.TypeTable.{typeTable, typeAs};
+ghost use Rattle.rules.specs.TypeTable.{TypeTable, eightByteEnvelopes, typeAs};
 ghost use Rattle.rules.specs.Sizes.{layout, layoutAs};
-ghost use Rattle.layout.specs.Running.{placed, closed};
+ghost use Rattle.layout.specs.Running.{Alignment, placed, closed};
 
-// The next multiple of an alignment, at or after n. The alignments that types have need no division.
+// The next multiple, at or after n, of an alignment that types have. No arm divides, so a type table can't make it slow by the
+// order of its members.
 fn round_up(n: usize, alignment: usize) -> usize
-    requires { ⌜ (0 < alignment) × (alignment ≤ 8) × (n ≤ 4294967296) ⌝ }
+    requires { ⌜ Alignment alignment × (n ≤ 4294967296) ⌝ }
     ensures { λ r. ⌜ r ≡ roundUp n alignment ⌝ }
 {
     match alignment {
         1 => n,
         2 => (n + 1) / 2 * 2,
         4 => (n + 3) / 4 * 4,
-        8 => (n + 7) / 8 * 8,
-        _ => (n + (alignment - 1)) / alignment * alignment,
+        _ => (n + 7) / 8 * 8,
     }
 }
 
@@ -31,7 +30,7 @@ fn larger(a: usize, b: usize) -> usize
 
 // "Each member at the next multiple of its alignment": a struct so far, with its end for its size, and its next member.
 pub(crate) fn place(before: Layout, member: Layout) -> Layout
-    requires { ⌜ (0 < member .alignment) × (member .alignment ≤ 8) × (member .size ≤ 65528) × (before .size ≤ 67108864) ⌝ }
+    requires { ⌜ Alignment (member .alignment) × (member .size ≤ 65528) × (before .size ≤ 67108864) ⌝ }
     ensures { λ r. ⌜ r ≡ placed before member ⌝ }
 {
     Layout {
@@ -42,7 +41,7 @@ pub(crate) fn place(before: Layout, member: Layout) -> Layout
 
 // "Size rounded up to" the largest alignment of the members.
 pub(crate) fn close(before: Layout) -> Layout
-    requires { ⌜ (0 < before .alignment) × (before .alignment ≤ 8) × (before .size ≤ 67108864) ⌝ }
+    requires { ⌜ Alignment (before .alignment) × (before .size ≤ 67108864) ⌝ }
     ensures { λ r. ⌜ r ≡ closed before ⌝ }
 {
     Layout {
@@ -62,11 +61,12 @@ pub(crate) fn array_layout(element: Layout, count: u32) -> Layout
     }
 }
 
-// Every kind but arrays and structs: its layout is the same whatever the other rows and numbers are.
+// Every kind but arrays and structs: its layout is the same under every type table with 8-byte envelopes, whatever the other
+// rows and numbers are.
 pub(crate) fn fixed_layout(kind: u32, a: u32) -> Layout
     requires { ⌜ (kind ≡ 4 → ⊥) × (kind ≡ 7 → ⊥) ⌝ }
-    ensures { λ r. ⌜ ((rows members : List ℕ) (inner : ℕ → Layout) (b c : ℕ) →
-        r ≡ layoutAs (typeTable rows members) inner (typeAs kind a b c)) ⌝ }
+    ensures { λ r. ⌜ ((t : TypeTable) → t .edition ≡ eightByteEnvelopes → (inner : ℕ → Layout) (b c : ℕ) →
+        r ≡ layoutAs t inner (typeAs kind a b c)) ⌝ }
 {
     match kind {
         1 => Layout {

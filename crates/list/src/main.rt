@@ -13,7 +13,7 @@ fn main() {
     let mut text = text_room();
     let count = io::read_full(0, &mut message);
     let length = listing::listing(&message[..count], &mut text);
-    io::write_all(1, listing::first(&text, length));
+    io::write_all(1, &text[..length]);
 }
 
 // The contracts give the lengths alone, so that no proof goes into a long list.

@@ -10,19 +10,22 @@ use lib.Seq.{sets, take-append-seam}
 use Rattle.rules.specs.declared.Fault.{Fault}
 use Rattle.rules.specs.declared.Place.the-variants.{Byte}
 use Rattle.rules.specs.Refusals.{fault, placeNumber, Answer, accepted, refused, lentAfter, number, place}
-use Rattle.rules.specs.Answers.{Lists, read}
+use Rattle.rules.specs.Answers.{Lists, read, numbersOf, bothCounted}
 use Rattle.reader.specs.declared.Lengths.{Lengths}
 use Rattle.reader.specs.declared.Reading.{Reading}
 use Rattle.reader.specs.declared.Reading.the-variants.{Accepted, Refused}
-use Rattle.reader.specs.Answers.{readingOf, lengthsOf, valuesIn, objectsIn}
+use Rattle.reader.specs.Answers.{readingOf, readingNumbers, lengthsOf, valuesIn, objectsIn}
 use Rattle.listing.specs.Lines.{largest, Puts}
 use Rattle.listing.specs.Listing.{messageOf, answered, head, body, listingOf, listing}
 use Rattle.listing.proofs.Putting.{puts-then}
+use Rattle.listing.proofs.Enough.{enough}
 
 -- What is left in lists that were lent to the reader, with its answer.
 abbrev pub Read : (answer : Answer Lists) (values objects : List ℕ) (reading : Reading) (values′ objects′ : List ℕ) → Type 0
 Read answer values objects reading values′ objects′ =
-    (readingOf reading ≡ lengthsOf answer) × ((values′ ≡ lentAfter (valuesIn answer) values) × (objects′ ≡ lentAfter (objectsIn answer) objects))
+    (readingOf reading ≡ lengthsOf answer)
+    × ((values′ ≡ lentAfter (valuesIn answer) values)
+    × ((objects′ ≡ lentAfter (objectsIn answer) objects) × (readingNumbers reading ≡ numbersOf 2 bothCounted answer)))
 
 -- The lists of an accepted message stand at the start of those that were lent.
 pub record Listed (answer : Answer Lists) (l : Lengths) (values′ objects′ : List ℕ) : Type 0 where
@@ -37,9 +40,9 @@ listed (accepted lists) values objects {l = l} read is =
     let says = read .0 in
     let lengths : l ≡ record { values = length (lists .values); objects = length (lists .objects) } = cc in
     record {
-      lists = rw (lengths, read .1 .0, read .1 .1, take-append-seam, take-append-seam);
+      lists = rw (lengths, read .1 .0, read .1 .1 .0, take-append-seam, take-append-seam);
       values-within = rw (lengths, read .1 .0, length-append) (omega arith);
-      objects-within = rw (lengths, read .1 .1, length-append) (omega arith);
+      objects-within = rw (lengths, read .1 .1 .0, length-append) (omega arith);
     }
 listed (refused f) values objects read is = let says = read .0 in let z : _≡_ {A = ℕ} 0 1 = cc in absurd (omega arith)
 
@@ -70,13 +73,14 @@ too-long bytes long put =
     let e : answered bytes ≡ refused (fault 3 (Byte 0)) = simp (lt-leb _ _ long) in
     whole bytes (listing-is bytes e ∙ append-nil _) (omega arith) put
 
--- the reader's answer is the rules'
+-- the reader's answer is the rules': there is room enough
 abbrev pub Lent : (values objects : List ℕ) → Type 0
-Lent values objects = (8208 ≡ length values) × (8208 ≡ length objects)
+Lent values objects = (8196 ≡ length values) × (8196 ≡ length objects)
 
 answered-is : (bytes values objects : List ℕ) → length bytes ≤ 8192 → Lent values objects
     → answered bytes ≡ read (messageOf bytes) 4 (length values) (length objects)
-answered-is bytes values objects short lent = simp (le-leb _ _ short, sym (lent .0), sym (lent .1))
+answered-is bytes values objects short lent =
+    simp (le-leb _ _ short) (sym (enough (messageOf bytes) 4 (length values) (length objects) (omega arith) (omega arith)))
 
 module _
     (bytes values objects : List ℕ) (short : length bytes ≤ 8192) (lent : Lent values objects)

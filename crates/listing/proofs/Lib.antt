@@ -1,3 +1,5 @@
+pub mod Cases
+pub mod Enough
 pub mod Answered
 pub mod Digits
 pub mod Putting

@@ -5,20 +5,25 @@ use Prim.Native.Nat.{ℕ, _/_}
 use lib.Dec.{leb}
 use lib.ListN.{length}
 use Rattle.rules.specs.declared.Place.the-variants.{Byte}
-use Rattle.rules.specs.Refusals.{fault, messageTooLong, Answer, accepted, refused, require, number, place}
+use Rattle.rules.specs.Refusals.{fault, messageTooLong, Answer, accepted, refused, require, andThen, number, place}
 use Rattle.rules.specs.Cases.{padTable}
+use Rattle.rules.specs.Trace.{objectList}
 use Rattle.rules.specs.Decode.{Message}
-use Rattle.rules.specs.Answers.{Lists, read}
+use Rattle.rules.specs.Answers.{Reading, judged, Lists}
 use Rattle.listing.specs.Lines.{line, result=, place=, bytes=, handles=, objects=, values=, objectLines, valueLines}
 
 -- "Built-in table above; no handles."
 abbrev pub messageOf : (bytes : List ℕ) → Message
 messageOf bytes = record { table = padTable; bytes = bytes; handles = 0 }
 
--- "Message on standard input up to 8,192 bytes, else 3." Values and objects of a message together are at most as many
--- numbers as it has bytes and 16 more: there is room for them all.
+-- The value list and the object list of an accepted message, whole.
+abbrev pub listsOf : Reading → Lists
+listsOf reading = record { values = reading .values; objects = objectList (reading .trace) }
+
+-- "Message on standard input up to 8,192 bytes, else 3."
 abbrev pub answered : (bytes : List ℕ) → Answer Lists
-answered bytes = require (leb (length bytes) 8192) (fault messageTooLong (Byte 0)) (read (messageOf bytes) 4 8208 8208)
+answered bytes =
+    require (leb (length bytes) 8192) (fault messageTooLong (Byte 0)) (andThen (judged (messageOf bytes) 4) (λ reading. accepted (listsOf reading)))
 
 abbrev pub head : (number place : ℕ) → List ℕ
 head number place = line result= number ++ line place= place

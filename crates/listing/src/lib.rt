@@ -3,12 +3,11 @@ mod lines;
 
 ghost use mathlib.Core.Path.{_≡_};
 ghost use Prim.Native.Nat.{_+_, _*_, _/_, _≤_};
-ghost use mathlib.Core.List.{_++_};
-ghost use lib.ListN.{length, take};
+ghost use lib.ListN.{length};
 ghost use lib.Seq.{sets};
 ghost use Rattle.rules.specs.Refusals.{placeNumber};
-ghost use Rattle.listing.specs.Lines.{objectLines, valueLines, largest, Puts};
-ghost use Rattle.listing.specs.Listing.{head, counts, listing as listing-of};
+ghost use Rattle.listing.specs.Lines.{largest, Puts};
+ghost use Rattle.listing.specs.Listing.{head, counts, body, listing as listing-of};
 use lines::put_line;
 use lines::put_objects;
 use lines::put_values;
@@ -54,25 +53,27 @@ fn put_counts(out: &mut [u8], at: usize, bytes: usize, objects: usize, values: u
 // The lines of a message that is accepted, after the first two.
 fn put_lists(out: &mut [u8], at: usize, bytes: usize, objects: &[u32], values: &[u64]) -> usize
     requires { ⌜ at + (113 + (23 * length (now objects) + 27 * length (now values))) ≤ largest ⌝ }
-    ensures { λ r. ⌜ Puts (now (out .entry)) at (counts bytes (length (now (objects .entry)) / 4) (length (now (values .entry))) ++ (objectLines (now (objects .entry)) ++ valueLines (now (values .entry)))) (113 + (23 * length (now (objects .entry)) + 27 * length (now (values .entry)))) r (now (out .exit)) ⌝ }
+    ensures { λ r. ⌜ Puts (now (out .entry)) at (body bytes (record { values = now (values .entry); objects = now (objects .entry) })) (113 + (23 * length (now (objects .entry)) + 27 * length (now (values .entry)))) r (now (out .exit)) ⌝ }
 {
     let after_counts = put_counts(out, at, bytes, objects.len() / 4, values.len());
     let after_objects = put_objects(out, after_counts, objects);
     put_values(out, after_objects, values)
 }
 
-// Values and objects of a message together are at most as many numbers as it has bytes, and 16: room for all of them.
+// Values and objects of a message together are at most as many numbers as it has bytes, and four: room enough for each.
+const NUMBERS: usize = LONGEST + 4;
+
 // The contracts give the lengths alone, so that no proof goes into a long list.
-fn values_room() -> [u64; 8208]
-    ensures { λ r. ⌜ 8208 ≡ length r ⌝ }
+fn values_room() -> [u64; NUMBERS]
+    ensures { λ r. ⌜ 8196 ≡ length r ⌝ }
 {
-    [0; 8208]
+    [0; NUMBERS]
 }
 
-fn objects_room() -> [u32; 8208]
-    ensures { λ r. ⌜ 8208 ≡ length r ⌝ }
+fn objects_room() -> [u32; NUMBERS]
+    ensures { λ r. ⌜ 8196 ≡ length r ⌝ }
 {
-    [0; 8208]
+    [0; NUMBERS]
 }
 
 // The listing of a message, whole, at the start of the output, what there is room for; past it the output keeps what it
@@ -105,16 +106,5 @@ pub fn listing(message: &[u8], out: &mut [u8]) -> usize
                 &values[..value_numbers],
             )
         }
-    }
-}
-
-// The first bytes of an output, so many or all there are: what a listing takes up of it.
-pub fn first(out: &[u8], count: usize) -> &[u8]
-    ensures { λ r. ⌜ now r ≡ take count (now (out .entry)) ⌝ }
-{
-    if count <= out.len() {
-        &out[..count]
-    } else {
-        out
     }
 }

@@ -1,6 +1,6 @@
 // Text put into a lent output from a place on. What there is no room for is left out; each function answers the place
 // after its text all the same. That a place is at most `largest` keeps the sums from wrapping.
-ghost use mathlib.Core.List.{[], _∷_, _++_};
+ghost use mathlib.Core.List.{[], _∷_};
 ghost use Prim.Native.Nat.{_+_, _*_, _≤_};
 ghost use lib.ListN.{length, getD};
 ghost use Rattle.listing.specs.Lines.{decimal, labelled, line, objectAt, objectLines, value=, valueLines, largest, Puts};

@@ -6,7 +6,7 @@ use Prim.Native.Nat.{ℕ, zero, suc, _+_, _-_, _≤_, _<_}
 use native.Mathlib.Omega.{arith}
 use lib.ListN.{length, getD, set}
 use lib.Seq.{getD-set-same, getD-set-other}
-use Rattle.rules.specs.TypeTable.{typeTable}
+use Rattle.rules.specs.TypeTable.{TypeTable}
 use Rattle.rules.specs.Sizes.{sizeOf}
 use Rattle.nesting.specs.declared.Level.{Level}
 use Rattle.nesting.specs.Nesting.{nextPlace}
@@ -31,9 +31,9 @@ module _ (none : Level) where
 
 -- ---- what is left of them once the one within the first of them stops at a place
 
-module _ (rows members alignments : List ℕ) where
+module _ (t : TypeTable) (alignments : List ℕ) where
   unfoldable pub leftAround : List Level → (stop : ℕ) → List Item
   leftAround [] stop = []
   leftAround (l ∷ around) stop =
-      gap (nextPlace rows members l alignments stop - stop)
-      ∷ (itemsOf (fieldsLeft (typeTable rows members) (advanced l) (nextPlace rows members l alignments stop)) ++ leftAround around (l .at + sizeOf (typeTable rows members) (l .row)))
+      gap (nextPlace (t .rows) (t .members) l alignments stop - stop)
+      ∷ (itemsOf (fieldsLeft t (advanced l) (nextPlace (t .rows) (t .members) l alignments stop)) ++ leftAround around (l .at + sizeOf t (l .row)))

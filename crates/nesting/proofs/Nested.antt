@@ -11,8 +11,9 @@ use borrow.Author.Tests.{lt-ltb, le-ltb, ltb-true, leb-true, eq-eqb, ne-eqb, not
 use lib.Dec.{ltb, leb, eqb}
 use lib.ListN.{getD}
 use Rattle.rules.specs.Bytes.{roundUp}
+use Rattle.rules.specs.TypeTable.{kindIn, aIn, bIn, rowIn}
 use Rattle.layout.proofs.Structs.{round-most}
-use Rattle.layout.proofs.Rows.{both}
+use Rattle.rules.proofs.Tests.{both}
 use Rattle.nesting.specs.declared.Level.{Level}
 use Rattle.nesting.specs.declared.Step.the-variants.{Fill, Into, Call, Out, Done}
 use Rattle.nesting.specs.Nesting.{nextOffset, hasParts, nextPart, nextPlace, possible, nextStep}
@@ -20,7 +21,7 @@ use Rattle.nesting.specs.Nesting.{nextOffset, hasParts, nextPart, nextPl
 pub past-last : (rows : List ℕ) (row : ℕ) → 256 ≤ row → false ≡ hasParts rows row
 past-last rows row h = rw (le-ltb row 256 h)
 
-pub has-parts : (rows : List ℕ) (row : ℕ) {k a b e : ℕ} → row < 256 → k ≡ getD rows (row * 4) 0 → a ≡ getD rows (row * 4 + 1) 0 → b ≡ getD rows (row * 4 + 2) 0 → e ≡ getD rows (a * 4) 0
+pub has-parts : (rows : List ℕ) (row : ℕ) {k a b e : ℕ} → row < 256 → k ≡ kindIn rows row → a ≡ aIn rows row → b ≡ bIn rows row → e ≡ kindIn rows a
     → (eqb k 7 && ltb 0 b) || (eqb k 4 && not (eqb e 2)) ≡ hasParts rows row
 has-parts rows row h k a b e = rw (lt-ltb row 256 h, k, e, a, b)
 
@@ -36,22 +37,22 @@ module _ (members alignments : List ℕ) (row member end offset : ℕ) where
   pub offset-last : {g r : ℕ} → member + 1 ≡ end → g ≡ getD alignments row 0 → r ≡ roundUp offset g → r ≡ nextOffset members alignments row member end offset
   offset-last e g r = rw (r, g, eq-eqb (member + 1) end e)
 
-  pub offset-next : {next g r : ℕ} → (member + 1 ≡ end → ⊥) → next ≡ getD members (member * 2 + 3) 0 → g ≡ getD alignments next 0 → r ≡ roundUp offset g
+  pub offset-next : {next g r : ℕ} → (member + 1 ≡ end → ⊥) → next ≡ rowIn members (member + 1) → g ≡ getD alignments next 0 → r ≡ roundUp offset g
       → r ≡ nextOffset members alignments row member end offset
   offset-next n e g r = rw (r, g, e, ne-eqb (member + 1) end n)
 
 module _ (rows members : List ℕ) (level : Level) where
-  pub part-member : {a k r : ℕ} → a ≡ getD rows (level .row * 4 + 1) 0 → k ≡ getD rows (level .row * 4) 0 → k ≡ 7 → r ≡ getD members ((a + level .done) * 2 + 1) 0
+  pub part-member : {a k r : ℕ} → a ≡ aIn rows (level .row) → k ≡ kindIn rows (level .row) → k ≡ 7 → r ≡ rowIn members (a + level .done)
       → r ≡ nextPart rows members level
   part-member a k e r = rw (r, a, ← k, e)
 
-  pub part-element : {a k : ℕ} → a ≡ getD rows (level .row * 4 + 1) 0 → k ≡ getD rows (level .row * 4) 0 → (k ≡ 7 → ⊥) → a ≡ nextPart rows members level
+  pub part-element : {a k : ℕ} → a ≡ aIn rows (level .row) → k ≡ kindIn rows (level .row) → (k ≡ 7 → ⊥) → a ≡ nextPart rows members level
   part-element a k n = rw (a, ← k, ne-eqb _ 7 n)
 
-  pub place-element : (alignments : List ℕ) {k : ℕ} (stop : ℕ) → k ≡ getD rows (level .row * 4) 0 → k ≡ 4 → stop ≡ nextPlace rows members level alignments stop
+  pub place-element : (alignments : List ℕ) {k : ℕ} (stop : ℕ) → k ≡ kindIn rows (level .row) → k ≡ 4 → stop ≡ nextPlace rows members level alignments stop
   place-element alignments stop k e = rw (← k, e)
 
-  pub place-member : (alignments : List ℕ) (stop : ℕ) {k a b offset : ℕ} → k ≡ getD rows (level .row * 4) 0 → (k ≡ 4 → ⊥) → a ≡ getD rows (level .row * 4 + 1) 0 → b ≡ getD rows (level .row * 4 + 2) 0
+  pub place-member : (alignments : List ℕ) (stop : ℕ) {k a b offset : ℕ} → k ≡ kindIn rows (level .row) → (k ≡ 4 → ⊥) → a ≡ aIn rows (level .row) → b ≡ bIn rows (level .row)
       → offset ≡ nextOffset members alignments (level .row) (a + level .done) (a + b) (stop - level .at) → level .at + offset ≡ nextPlace rows members level alignments stop
   place-member alignments stop k n a b o = rw (o, a, b, ← k, ne-eqb _ 4 n)
 
@@ -71,7 +72,7 @@ module _ (rows members : List ℕ) (level : Level) where
       pub step-fill : {next : ℕ} → due ≡ true → next ≡ nextPlace rows members level alignments place → Fill next ≡ nextStep rows members level alignments due place around
       step-fill e n = rw (can, e, n)
 
-      module _ {b : ℕ} (ready : due ≡ false) (counted : b ≡ getD rows (level .row * 4 + 2) 0) where
+      module _ {b : ℕ} (ready : due ≡ false) (counted : b ≡ bIn rows (level .row)) where
         pub step-done : level .done ≡ b → around ≡ 0 → Done ≡ nextStep rows members level alignments due place around
         step-done e z = rw (can, ready, ← counted, eq-eqb _ _ e, eq-eqb around 0 z)
 

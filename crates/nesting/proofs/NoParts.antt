@@ -8,11 +8,11 @@ use native.Mathlib.Omega.{arith}
 use borrow.Author.Tests.{eqb-true, eqb-false, ltb-false, lt-ltb, ne-eqb}
 use lib.Dec.{eqb, ltb}
 use lib.ListN.{getD}
-use Rattle.rules.specs.TypeTable.{TypeTable, typeTable, kindAt, bAt, memberRows}
+use Rattle.rules.specs.TypeTable.{TypeTable, kindAt, bAt, memberRows}
 use Rattle.rules.specs.Sizes.{fieldsFrom, fieldsOf, structSize, layoutAs, sizeOf}
 use Rattle.nesting.specs.Nesting.{hasParts}
-use Rattle.nesting.specs.Ready.{Outside}
-use Rattle.nesting.proofs.ByKind.{size-kind}
+use Rattle.layout.specs.Ready.{Outside}
+use Rattle.layout.proofs.ByKind.{size-kind}
 
 -- ---- tests of two kinds
 
@@ -24,9 +24,9 @@ array-left k e n = eqb-true k 4 (go (eqb k 4) (eqb k 7) e (ne-eqb k 7 n))
     go false b h f = sym f ∙ h
 
 -- None of the kinds that stand in line.
-pub outside-left : (rows members : List ℕ) (row : ℕ) {k : ℕ} → k ≡ getD rows (row * 4) 0 → (k ≡ 1 → ⊥) → (k ≡ 2 → ⊥) → (k ≡ 3 → ⊥) → (eqb k 4 || eqb k 7) ≡ false → (k ≡ 6 → ⊥)
-    → Outside (kindAt (typeTable rows members) row)
-outside-left rows members row {k} e n₁ n₂ n₃ q n₆ =
+pub outside-left : (t : TypeTable) (row : ℕ) {k : ℕ} → k ≡ kindAt t row → (k ≡ 1 → ⊥) → (k ≡ 2 → ⊥) → (k ≡ 3 → ⊥) → (eqb k 4 || eqb k 7) ≡ false → (k ≡ 6 → ⊥)
+    → Outside (kindAt t row)
+outside-left t row {k} e n₁ n₂ n₃ q n₆ =
     let b = neither (eqb k 4) (eqb k 7) q in
     (λ z. n₁ (e ∙ z), λ z. n₂ (e ∙ z), λ z. n₃ (e ∙ z), λ z. eqb-false k 4 (b .0) (e ∙ z), λ z. n₆ (e ∙ z), λ z. eqb-false k 7 (b .1) (e ∙ z))
   where

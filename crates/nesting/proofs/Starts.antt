@@ -14,11 +14,12 @@ use Rattle.rules.specs.Refusals.{accepted}
 use Rattle.rules.specs.TypeTable.{TypeTable, rowCount, kindAt, aAt, bAt, rowOf, memberRows, struct}
 use Rattle.rules.specs.Sizes.{Field, layoutOf, layoutBelow, layoutAs, sizeOf, largestAlignment, fieldsFrom, fieldsOf, fieldsSize, structSize}
 use Rattle.rules.specs.Sound.{soundness, structMembers}
-use Rattle.layout.proofs.Rows.{both, layout-step, layout-below, member-fits, struct-fits}
+use Rattle.rules.proofs.Tests.{both}
+use Rattle.layout.proofs.Rows.{layout-step, layout-below, member-fits, struct-fits}
 use Rattle.nesting.specs.declared.Level.{Level}
 use Rattle.nesting.specs.Nesting.{hasParts}
-use Rattle.nesting.proofs.Below.{AllBelow, none, more, FieldsBelow, largest-same, fields-same, fields-below}
-use Rattle.nesting.proofs.ByKind.{type-kind, size-array, fits-kind, array-below}
+use Rattle.layout.proofs.Below.{AllBelow, none, more, FieldsBelow, largest-same, fields-same, fields-below}
+use Rattle.layout.proofs.ByKind.{type-kind, size-array, fits-kind, array-below}
 use Rattle.nesting.proofs.Items.{copies}
 use Rattle.nesting.proofs.Left.{fieldsLeft, members-left, elements-left}
 

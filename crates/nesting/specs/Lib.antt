@@ -1,4 +1,1 @@
 pub mod Nesting
-pub mod Ordinals
-pub mod Ready
-pub mod Plans

@@ -10,11 +10,11 @@ use Rattle.rules.specs.declared.Fault.{Fault}
 use Rattle.rules.specs.Refusals.{number, placeNumber, Answer, accepted, refused, andThen}
 use Rattle.rules.specs.Bytes.{zeros}
 use Rattle.words.proofs.Stores.{bytesOf-byte}
-use Rattle.writer.proofs.Filling.{Filled, filled-more, filled-all}
-use Rattle.rules.specs.Answers.{Lists, Written}
+use Rattle.write_leaves.proofs.Filling.{Filled, filled-more, filled-all}
+use Rattle.rules.specs.Answers.{Lists, Written, counted, bothCounted, sized}
 use Rattle.reader.specs.Answers.{lengthOf, lengthsOf}
 use Rattle.writer.specs.Answers.{sizesOf}
-use Rattle.ratlinery.specs.Face.{told, one, counted, bothCounted, sized}
+use Rattle.ratlinery.specs.Face.{told, one}
 
 -- An answer that an operation of this repository gave, as `told` tells it; `n` is the number that is returned.
 abbrev Tells : {A : Type 0} (count : ℕ) (results : A → List ℕ) (answer : Answer A) (before after : List ℕ) (n : ℕ) → Type 0

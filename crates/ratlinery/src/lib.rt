@@ -9,10 +9,11 @@ ghost use Rattle.rules.specs.Refusals.{number, placeNumber, lentAfter};
 ghost use Rattle.rules.specs.Bytes.{zeros};
 ghost use Rattle.rules.specs.TypeTable.{typeTable};
 ghost use Rattle.rules.specs.Answers as Rules;
+ghost use Rattle.rules.specs.Answers.{nothing, laid, counted, bothCounted, sized};
 ghost use Rattle.rules.specs.Header as Headers;
-ghost use Rattle.reader.specs.Doing as Doing;
+ghost use Rattle.walk_leaves.specs.Doing as Doing;
 ghost use Rattle.reader.specs.Answers.{givenOf, valuesIn, objectsIn};
-ghost use Rattle.ratlinery.specs.Face.{told, nothing, laid, one, counted, bothCounted, sized, header, headed};
+ghost use Rattle.ratlinery.specs.Face.{told, one, header, headed};
 use header::Header;
 use header::HeaderAnswer;
 use header::HeaderWritten;
@@ -68,8 +69,8 @@ pub extern "C" fn ratlinery_check(
     handles: u64,
     answer: &mut [u64],
 ) -> u32
-    ensures number { λ r. ⌜ r ≡ number (Rules.check (Doing.message (now (rows .entry)) (now (members .entry)) (now (message .entry)) handles) root) ⌝ }
-    ensures answer { λ _. ⌜ now (answer .exit) ≡ sets (now (answer .entry)) 0 (told 0 nothing (Rules.check (Doing.message (now (rows .entry)) (now (members .entry)) (now (message .entry)) handles) root)) ⌝ }
+    ensures number { λ r. ⌜ r ≡ number (Rules.check (Doing.message (typeTable (now (rows .entry)) (now (members .entry))) (now (message .entry)) handles) root) ⌝ }
+    ensures answer { λ _. ⌜ now (answer .exit) ≡ sets (now (answer .entry)) 0 (told 0 nothing (Rules.check (Doing.message (typeTable (now (rows .entry)) (now (members .entry))) (now (message .entry)) handles) root)) ⌝ }
 {
     match reader::check(rows, members, root, message, handles) {
         Verdict::Refused(f) => refused(f, 0, answer),
@@ -91,10 +92,10 @@ pub extern "C" fn ratlinery_read(
     objects: &mut [u32],
     answer: &mut [u64],
 ) -> u32
-    ensures number { λ r. ⌜ r ≡ number (Rules.read (Doing.message (now (rows .entry)) (now (members .entry)) (now (message .entry)) handles) root (length (now (values .entry))) (length (now (objects .entry)))) ⌝ }
-    ensures values { λ _. ⌜ now (values .exit) ≡ lentAfter (valuesIn (Rules.read (Doing.message (now (rows .entry)) (now (members .entry)) (now (message .entry)) handles) root (length (now (values .entry))) (length (now (objects .entry))))) (now (values .entry)) ⌝ }
-    ensures objects { λ _. ⌜ now (objects .exit) ≡ lentAfter (objectsIn (Rules.read (Doing.message (now (rows .entry)) (now (members .entry)) (now (message .entry)) handles) root (length (now (values .entry))) (length (now (objects .entry))))) (now (objects .entry)) ⌝ }
-    ensures answer { λ _. ⌜ now (answer .exit) ≡ sets (now (answer .entry)) 0 (told 2 bothCounted (Rules.read (Doing.message (now (rows .entry)) (now (members .entry)) (now (message .entry)) handles) root (length (now (values .entry))) (length (now (objects .entry))))) ⌝ }
+    ensures number { λ r. ⌜ r ≡ number (Rules.read (Doing.message (typeTable (now (rows .entry)) (now (members .entry))) (now (message .entry)) handles) root (length (now (values .entry))) (length (now (objects .entry)))) ⌝ }
+    ensures values { λ _. ⌜ now (values .exit) ≡ lentAfter (valuesIn (Rules.read (Doing.message (typeTable (now (rows .entry)) (now (members .entry))) (now (message .entry)) handles) root (length (now (values .entry))) (length (now (objects .entry))))) (now (values .entry)) ⌝ }
+    ensures objects { λ _. ⌜ now (objects .exit) ≡ lentAfter (objectsIn (Rules.read (Doing.message (typeTable (now (rows .entry)) (now (members .entry))) (now (message .entry)) handles) root (length (now (values .entry))) (length (now (objects .entry))))) (now (objects .entry)) ⌝ }
+    ensures answer { λ _. ⌜ now (answer .exit) ≡ sets (now (answer .entry)) 0 (told 2 bothCounted (Rules.read (Doing.message (typeTable (now (rows .entry)) (now (members .entry))) (now (message .entry)) handles) root (length (now (values .entry))) (length (now (objects .entry))))) ⌝ }
 {
     match reader::read(rows, members, root, message, handles, values, objects) {
         Reading::Refused(f) => refused(f, 2, answer),
@@ -132,9 +133,9 @@ pub extern "C" fn ratlinery_read_values(
     values: &mut [u64],
     answer: &mut [u64],
 ) -> u32
-    ensures number { λ r. ⌜ r ≡ number (Rules.readValues (Doing.message (now (rows .entry)) (now (members .entry)) (now (message .entry)) handles) root (length (now (values .entry)))) ⌝ }
-    ensures values { λ _. ⌜ now (values .exit) ≡ lentAfter (Rules.readValues (Doing.message (now (rows .entry)) (now (members .entry)) (now (message .entry)) handles) root (length (now (values .entry)))) (now (values .entry)) ⌝ }
-    ensures answer { λ _. ⌜ now (answer .exit) ≡ sets (now (answer .entry)) 0 (told 1 counted (Rules.readValues (Doing.message (now (rows .entry)) (now (members .entry)) (now (message .entry)) handles) root (length (now (values .entry))))) ⌝ }
+    ensures number { λ r. ⌜ r ≡ number (Rules.readValues (Doing.message (typeTable (now (rows .entry)) (now (members .entry))) (now (message .entry)) handles) root (length (now (values .entry)))) ⌝ }
+    ensures values { λ _. ⌜ now (values .exit) ≡ lentAfter (Rules.readValues (Doing.message (typeTable (now (rows .entry)) (now (members .entry))) (now (message .entry)) handles) root (length (now (values .entry)))) (now (values .entry)) ⌝ }
+    ensures answer { λ _. ⌜ now (answer .exit) ≡ sets (now (answer .entry)) 0 (told 1 counted (Rules.readValues (Doing.message (typeTable (now (rows .entry)) (now (members .entry))) (now (message .entry)) handles) root (length (now (values .entry))))) ⌝ }
 {
     given(
         reader::read_values(rows, members, root, message, handles, values),
@@ -152,9 +153,9 @@ pub extern "C" fn ratlinery_read_objects(
     objects: &mut [u32],
     answer: &mut [u64],
 ) -> u32
-    ensures number { λ r. ⌜ r ≡ number (Rules.readObjects (Doing.message (now (rows .entry)) (now (members .entry)) (now (message .entry)) handles) root (length (now (objects .entry)))) ⌝ }
-    ensures objects { λ _. ⌜ now (objects .exit) ≡ lentAfter (Rules.readObjects (Doing.message (now (rows .entry)) (now (members .entry)) (now (message .entry)) handles) root (length (now (objects .entry)))) (now (objects .entry)) ⌝ }
-    ensures answer { λ _. ⌜ now (answer .exit) ≡ sets (now (answer .entry)) 0 (told 1 counted (Rules.readObjects (Doing.message (now (rows .entry)) (now (members .entry)) (now (message .entry)) handles) root (length (now (objects .entry))))) ⌝ }
+    ensures number { λ r. ⌜ r ≡ number (Rules.readObjects (Doing.message (typeTable (now (rows .entry)) (now (members .entry))) (now (message .entry)) handles) root (length (now (objects .entry)))) ⌝ }
+    ensures objects { λ _. ⌜ now (objects .exit) ≡ lentAfter (Rules.readObjects (Doing.message (typeTable (now (rows .entry)) (now (members .entry))) (now (message .entry)) handles) root (length (now (objects .entry)))) (now (objects .entry)) ⌝ }
+    ensures answer { λ _. ⌜ now (answer .exit) ≡ sets (now (answer .entry)) 0 (told 1 counted (Rules.readObjects (Doing.message (typeTable (now (rows .entry)) (now (members .entry))) (now (message .entry)) handles) root (length (now (objects .entry))))) ⌝ }
 {
     given(
         reader::read_objects(rows, members, root, message, handles, objects),

@@ -17,14 +17,15 @@ use Rattle.rules.specs.Trace.{objectList}
 use Rattle.rules.specs.Decode.{Message, Decoded, went, stopped, traceOf}
 use Rattle.rules.specs.Answers as A
 use Rattle.rules.specs.Answers.{walk, finished, requireLength, judged}
-use Rattle.layout.specs.Answers.{keptSizes, keptAlignments}
+use Rattle.layout.specs.Answers.{keptSizes, keptAlignments, givenIfSound}
+use Rattle.layout.proofs.Keeping.{given-sound}
 use Rattle.layout.proofs.Roots.{root-in-use}
 use Rattle.reader.specs.declared.Verdict.{Verdict}
 use Rattle.reader.specs.declared.Verdict.the-variants as Checked
 use Rattle.reader.specs.declared.Lengths.{Lengths}
 use Rattle.reader.specs.declared.Reading.{Reading}
 use Rattle.reader.specs.declared.Reading.the-variants.{Accepted, Refused}
-use Rattle.reader.specs.Doing.{message, valuesOf}
+use Rattle.walk_leaves.specs.Doing.{message, valuesOf}
 use Rattle.reader.specs.Answers.{verdictOf, readingOf, lengthsOf}
 use Rattle.reader.specs.Passing.{listsOf, BeforeWalk, Walkable, Passed, judgedLengths}
 
@@ -67,17 +68,20 @@ before-passed m root e =
     go (refused k) allowed short few f g h q = absurd (let w : _≡_ {A = ℕ} 0 1 = cc in omega arith)
 
 -- Then the message may be walked.
-walkable : (rows members bytes : List ℕ) (root handles : ℕ) {sizes alignments : List ℕ}
-    → before (message rows members bytes handles) root ≡ accepted tt → sizes ≡ keptSizes (typeTable rows members)
-    → alignments ≡ keptAlignments (typeTable rows members) → Walkable rows members bytes root handles sizes alignments
-walkable rows members bytes root handles e s a =
+walkable : (rows members bytes : List ℕ) (root handles : ℕ) (sizes alignments : List ℕ) {sizes′ alignments′ : List ℕ}
+    → before (message (typeTable rows members) bytes handles) root ≡ accepted tt
+    → sizes′ ≡ givenIfSound (typeTable rows members) (keptSizes (typeTable rows members)) sizes
+    → alignments′ ≡ givenIfSound (typeTable rows members) (keptAlignments (typeTable rows members)) alignments
+    → Walkable (typeTable rows members) bytes root handles sizes′ alignments′
+walkable rows members bytes root handles sizes alignments e s a =
     let t = typeTable rows members in
-    let p = before-passed (message rows members bytes handles) root e in
+    let p = before-passed (message t bytes handles) root e in
     record {
       ready = record {
         sound = p .0;
-        sizes-kept = s;
-        alignments-kept = a;
+        edition = refl;
+        sizes-kept = given-sound t (keptSizes t) sizes (p .0) s;
+        alignments-kept = given-sound t (keptAlignments t) alignments (p .0) a;
         depth-left = omega arith;
         in-use = root-in-use t root (p .1);
       };
@@ -87,24 +91,27 @@ walkable rows members bytes root handles e s a =
 
 -- What the code tested is what the rules test.
 tested-as : (rows members bytes : List ℕ) (root handles : ℕ) {sound : Answer (Unit {0})} → sound ≡ soundness (typeTable rows members)
-    → (r : Verdict) → BeforeWalk sound rows root (length bytes) handles r → verdictOf r ≡ before (message rows members bytes handles) root
-tested-as rows members bytes root handles e r tested = tested members ∙ rw e
+    → (r : Verdict) → BeforeWalk sound rows root (length bytes) handles r → verdictOf r ≡ before (message (typeTable rows members) bytes handles) root
+tested-as rows members bytes root handles e r tested = tested (typeTable rows members) refl ∙ rw e
 
 module _ (rows members bytes : List ℕ) (root handles : ℕ) {sound : Answer (Unit {0})} (s : sound ≡ soundness (typeTable rows members))
     {r : Verdict} (tested : BeforeWalk sound rows root (length bytes) handles r) where
-  pub judge-refused : {f : Fault} → r ≡ Checked.Refused f → refused f ≡ judgedLengths (message rows members bytes handles) root
-  judge-refused e = rw (judged-before (message rows members bytes handles) root, ← tested-as rows members bytes root handles s r tested, e)
+  pub judge-refused : {f : Fault} → r ≡ Checked.Refused f → refused f ≡ judgedLengths (message (typeTable rows members) bytes handles) root
+  judge-refused e = rw (judged-before (message (typeTable rows members) bytes handles) root, ← tested-as rows members bytes root handles s r tested, e)
 
   module _ (e : r ≡ Checked.Accepted) where
-    pub judge-walkable : {sizes alignments : List ℕ} → sizes ≡ keptSizes (typeTable rows members)
-        → alignments ≡ keptAlignments (typeTable rows members) → Walkable rows members bytes root handles sizes alignments
-    judge-walkable = walkable rows members bytes root handles (sym (tested-as rows members bytes root handles s r tested) ∙ ap verdictOf e)
+    pub judge-walkable : (sizes alignments : List ℕ) {sizes′ alignments′ : List ℕ}
+        → sizes′ ≡ givenIfSound (typeTable rows members) (keptSizes (typeTable rows members)) sizes
+        → alignments′ ≡ givenIfSound (typeTable rows members) (keptAlignments (typeTable rows members)) alignments
+        → Walkable (typeTable rows members) bytes root handles sizes′ alignments′
+    judge-walkable sizes alignments =
+        walkable rows members bytes root handles sizes alignments (sym (tested-as rows members bytes root handles s r tested) ∙ ap verdictOf e)
 
     pub judge-passed : {values values′ objects objects′ : List ℕ} {reading : Reading}
-        → Passed rows members bytes root handles values values′ objects objects′ reading
-        → readingOf reading ≡ judgedLengths (message rows members bytes handles) root
+        → Passed (typeTable rows members) bytes root handles values values′ objects objects′ reading
+        → readingOf reading ≡ judgedLengths (message (typeTable rows members) bytes handles) root
     judge-passed p =
-        p .answers ∙ rw (judged-before (message rows members bytes handles) root, ← tested-as rows members bytes root handles s r tested, e)
+        p .answers ∙ rw (judged-before (message (typeTable rows members) bytes handles) root, ← tested-as rows members bytes root handles s r tested, e)
 
 -- ---- a message that is accepted
 
@@ -156,9 +163,11 @@ pub held-lists : {m : Message} {root : ℕ} {lengths : Lengths} (h : Held m root
 held-lists {m} {root} h = finished-lists m (walk m root) (accepted-finished m root (h .held) .1)
 
 -- It may be walked again.
-pub judged-walkable : (rows members bytes : List ℕ) (root handles : ℕ) {a : Reading} {lengths : Lengths} {sizes alignments : List ℕ}
-    → readingOf a ≡ judgedLengths (message rows members bytes handles) root → a ≡ Accepted lengths → sizes ≡ keptSizes (typeTable rows members)
-    → alignments ≡ keptAlignments (typeTable rows members) → Walkable rows members bytes root handles sizes alignments
-judged-walkable rows members bytes root handles {a} j e =
-    let m = message rows members bytes handles in
-    walkable rows members bytes root handles (accepted-finished m root (as-held m root a j e .held) .0)
+pub judged-walkable : (rows members bytes : List ℕ) (root handles : ℕ) (sizes alignments : List ℕ) {a : Reading} {lengths : Lengths}
+    {sizes′ alignments′ : List ℕ} → readingOf a ≡ judgedLengths (message (typeTable rows members) bytes handles) root → a ≡ Accepted lengths
+    → sizes′ ≡ givenIfSound (typeTable rows members) (keptSizes (typeTable rows members)) sizes
+    → alignments′ ≡ givenIfSound (typeTable rows members) (keptAlignments (typeTable rows members)) alignments
+    → Walkable (typeTable rows members) bytes root handles sizes′ alignments′
+judged-walkable rows members bytes root handles sizes alignments {a} j e =
+    let m = message (typeTable rows members) bytes handles in
+    walkable rows members bytes root handles sizes alignments (accepted-finished m root (as-held m root a j e .held) .0)

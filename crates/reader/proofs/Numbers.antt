@@ -1,43 +1,36 @@
--- Runs of numbers: the elements of a vector or of an array, where they are numbers.
+-- Document 01's numbers of each answer are those of the rules' answer that it means.
 -- Assumes nothing.
-use mathlib.Core.Bool.{true}
-use mathlib.Core.List.{List}
-use mathlib.Core.Path.{_≡_, sym, _∙_}
-use Prim.Native.Nat.{ℕ, _+_, _*_, _≤_, _<_}
-use native.Mathlib.Nat.{le-mul-of-pos-right}
-use native.Mathlib.Omega.{arith}
-use lib.ListN.{length, getD}
-use Rattle.rules.specs.TypeTable.{typeTable}
-use Rattle.rules.specs.Sizes.{sizeOf}
-use Rattle.rules.specs.Walk as W
-use Rattle.nesting.specs.Ready.{Ready, widthAllowed}
-use Rattle.nesting.proofs.ByKind.{number-width, size-number, width-positive}
-use Rattle.reader.specs.declared.cursor.Cursor.{Cursor}
-use Rattle.reader.specs.declared.cursor.Walked.the-variants.{On}
-use Rattle.reader.specs.Doing.{message, Ask}
-use Rattle.reader.specs.Parts.{numbersAt, DidValues}
-use Rattle.reader.specs.Walking.{ElementsDid}
-use Rattle.reader.proofs.Steps.{did-more}
-use Rattle.reader.proofs.ByKind.{decode-number}
+use mathlib.Core.List.{List, [], _∷_}
+use mathlib.Core.Path.{_≡_, refl, ap}
+use Prim.Native.Nat.{ℕ}
+use lib.ListN.{length}
+use Rattle.rules.specs.Refusals.{Answer}
+use Rattle.rules.specs.Bytes.{zeros}
+use Rattle.rules.specs.Answers.{Lists, numbersOf, nothing, counted, bothCounted}
+use Rattle.rules.proofs.Numbers.{numbers-told}
+use Rattle.reader.specs.declared.Verdict.{Verdict}
+use Rattle.reader.specs.declared.Verdict.the-variants as Checked
+use Rattle.reader.specs.declared.Given.{Given}
+use Rattle.reader.specs.declared.Given.the-variants as One
+use Rattle.reader.specs.declared.Lengths.{Lengths}
+use Rattle.reader.specs.declared.Reading.{Reading}
+use Rattle.reader.specs.declared.Reading.the-variants as Both
+use Rattle.reader.specs.Answers.{verdictOf, verdictNumbers, givenOf, givenNumbers, readingOf, readingNumbers, lengthOf, lengthsOf}
 
-module _ {rows members sizes alignments : List ℕ} {depth row : ℕ} (ready : Ready rows members sizes alignments depth row) {k width : ℕ}
-    (e : k ≡ getD rows (row * 4) 0) (q : k ≡ 2) (f : width ≡ getD rows (row * 4 + 1) 0) where
-  allowed : widthAllowed width ≡ true
-  allowed = rw f (number-width (typeTable rows members) row (ready .sound) (ready .in-use) (sym e ∙ q))
+pub verdict-numbers : (r : Verdict) {answer : Answer (Unit {0})} → verdictOf r ≡ answer → verdictNumbers r ≡ numbersOf 0 nothing answer
+unfolding zeros
+verdict-numbers Checked.Accepted e = ap (numbersOf 0 nothing) e
+verdict-numbers (Checked.Refused f) e = ap (numbersOf 0 nothing) e
 
-  wide : sizeOf (typeTable rows members) row ≡ width
-  wide = size-number (typeTable rows members) row (sym e ∙ q) ∙ sym f
+pub given-numbers : (r : Given) (answer : Answer (List ℕ)) → givenOf r ≡ lengthOf answer → givenNumbers r ≡ numbersOf 1 counted answer
+unfolding zeros
+given-numbers (One.Accepted count) answer e = numbers-told 1 (λ n. n ∷ []) length answer refl e
+given-numbers (One.Refused f) answer e = numbers-told 1 (λ n. n ∷ []) length answer refl e
 
-  pub numbers-ask : {total handles at : ℕ} {c : Cursor} (count : ℕ) → Ask total handles (count * sizeOf (typeTable rows members) row) at c
-      → (widthAllowed width ≡ true) × (at + count * width ≤ 65536) × (c .values < 4294967296)
-  numbers-ask {total} {handles} {at} {c} count ask =
-      let a : Ask total handles (count * width) at c = rw wide at ask in
-      (allowed, omega (arith, a .inside, a .short), omega (arith, a .small))
+abbrev lengthsIn : Lists → Lengths
+lengthsIn lists = record { values = length (lists .values); objects = length (lists .objects) }
 
-  pub numbers-done : (bytes : List ℕ) (handles at count : ℕ) (v v′ o : List ℕ) (c d : Cursor) → Ask (length bytes) handles (count * sizeOf (typeTable rows members) row) at c
-      → DidValues bytes v v′ count at c (On d) (numbersAt width count) → ElementsDid rows members bytes handles depth v v′ o o at c row count (On d)
-  unfolding numbersAt
-  numbers-done bytes handles at count v v′ o c d a did =
-      let m = message rows members bytes handles in
-      rw (decode-number m (W.levels m depth) row (sym e ∙ q), wide, ← f)
-      (did-more (count * width) (le-mul-of-pos-right count (width-positive width allowed)) (did rows members o handles (a .free) (a .held)))
+pub reading-numbers : (r : Reading) (answer : Answer Lists) → readingOf r ≡ lengthsOf answer → readingNumbers r ≡ numbersOf 2 bothCounted answer
+unfolding zeros
+reading-numbers (Both.Accepted lengths) answer e = numbers-told 2 (λ l. l .values ∷ l .objects ∷ []) lengthsIn answer refl e
+reading-numbers (Both.Refused f) answer e = numbers-told 2 (λ l. l .values ∷ l .objects ∷ []) lengthsIn answer refl e

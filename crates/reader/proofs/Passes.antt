@@ -11,7 +11,7 @@ use lib.ListN.{length, getD}
 use Rattle.rules.specs.declared.Fault.{Fault}
 use Rattle.rules.specs.Refusals.{accepted, refused, require}
 use Rattle.rules.specs.Bytes.{roundUp, padded}
-use Rattle.rules.specs.TypeTable.{typeTable}
+use Rattle.rules.specs.TypeTable.{TypeTable}
 use Rattle.rules.specs.Sizes.{sizeOf}
 use Rattle.rules.specs.Trace.{Event, primaryObject, objectList}
 use Rattle.rules.specs.Decode as D
@@ -20,20 +20,19 @@ use Rattle.rules.specs.Walk as W
 use Rattle.rules.specs.Answers.{walk, finished}
 use Rattle.layout.proofs.Rows.{sound-rows, sound-size}
 use Rattle.layout.proofs.Keeping.{few-rows, kept-size}
-use Rattle.nesting.specs.Ready.{Ready}
+use Rattle.layout.specs.Ready.{Ready}
 use Rattle.reader.specs.declared.Reading.{Reading}
 use Rattle.reader.specs.declared.Reading.the-variants as Both
-use Rattle.reader.specs.declared.cursor.Cursor.{Cursor}
-use Rattle.reader.specs.declared.cursor.Stop.{Stop}
-use Rattle.reader.specs.declared.cursor.Walked.{Walked}
-use Rattle.reader.specs.declared.cursor.Walked.the-variants.{On, Refused}
-use Rattle.reader.specs.Doing.{message, faultOf, walkedOf, answer, Did, Ask}
-use Rattle.reader.specs.Parts.{claimAt, DidObjects}
-use Rattle.reader.specs.Walking.{ValueDid}
+use Rattle.walk_leaves.specs.declared.cursor.Cursor.{Cursor}
+use Rattle.walk_leaves.specs.declared.cursor.Walked.{Walked}
+use Rattle.walk_leaves.specs.declared.cursor.Walked.the-variants.{On, Refused}
+use Rattle.walk_leaves.specs.Doing.{message, answer, Did, Ask}
+use Rattle.walk_leaves.specs.Parts.{claimAt, DidObjects}
+use Rattle.walk.specs.Walking.{ValueDid}
 use Rattle.reader.specs.Answers.{lengthsOf, readingOf}
 use Rattle.reader.specs.Passing.{listsOf, afterWalk, start, Walkable, PrimaryDid, Passed}
-use Rattle.reader.proofs.Steps.{did-then, did-halt}
-use Rattle.reader.proofs.Claiming.{claim-then, claim-on}
+use Rattle.walk_leaves.proofs.Steps.{did-then, did-halt}
+use Rattle.walk_records.proofs.Claiming.{claim-then, claim-on}
 
 -- The walk is the claim of the primary object, and then the root's value.
 walk-then : (m : Message) (root : ℕ)
@@ -43,40 +42,40 @@ walk-then m root = claim-then m primaryObject root (sizeOf (m .table) root) (W.d
 
 -- ---- the primary object
 
-module _ {rows members bytes : List ℕ} {root handles : ℕ} {sizes alignments : List ℕ} (w : Walkable rows members bytes root handles sizes alignments)
+module _ {t : TypeTable} {bytes : List ℕ} {root handles : ℕ} {sizes alignments : List ℕ} (w : Walkable t bytes root handles sizes alignments)
     {size : ℕ} (kept : size ≡ getD sizes root 0) where
-  root-size : size ≡ sizeOf (typeTable rows members) root
-  root-size = kept ∙ (rw (w .ready .sizes-kept) (kept-size (typeTable rows members) (w .ready .sound) root (w .ready .in-use)))
+  root-size : size ≡ sizeOf t root
+  root-size = kept ∙ (rw (w .ready .sizes-kept) (kept-size t (w .ready .sound) root (w .ready .in-use)))
 
   size-bound : size ≤ 65528
-  size-bound = omega (arith, root-size, sound-size (typeTable rows members) root (sound-rows (typeTable rows members) (w .ready .sound) root (w .ready .in-use)))
+  size-bound = omega (arith, root-size, sound-size t root (sound-rows t (w .ready .sound) root (w .ready .in-use)))
 
   pub claim-asked : (length bytes ≤ 65536) × (start .next ≤ length bytes) × (start .objects < 4294967296) × (root < 4294967296) × (size < 281474976710656)
   claim-asked =
-      (w .short, omega arith, omega arith, omega (arith, few-rows (typeTable rows members) (w .ready .sound) root (w .ready .in-use)), omega (arith, size-bound))
+      (w .short, omega arith, omega arith, omega (arith, few-rows t (w .ready .sound) root (w .ready .in-use)), omega (arith, size-bound))
 
   module _ {objects objects′ : List ℕ} {r : Walked} (claim : DidObjects bytes objects objects′ 4 0 start r (claimAt primaryObject root size)) where
     claimed-root : (values : List ℕ)
         → Did (length bytes) handles 4 values values objects objects′ start r
-        (claimAt primaryObject root (sizeOf (typeTable rows members) root) (message rows members bytes handles) 0 0 0)
-    claimed-root values = rw root-size at (claim rows members values handles (omega arith) (omega arith))
+        (claimAt primaryObject root (sizeOf t root) (message t bytes handles) 0 0 0)
+    claimed-root values = rw root-size at (claim t values handles (omega arith) (omega arith))
 
-    pub primary-refused : {values : List ℕ} {f : Stop} → r ≡ Refused f → PrimaryDid rows members bytes root handles values values objects objects′ (Refused f)
-    primary-refused {values} e = rw (walk-then (message rows members bytes handles) root) (did-halt 4 _ (rw e at (claimed-root values)))
+    pub primary-refused : {values : List ℕ} {f : Fault} → r ≡ Refused f → PrimaryDid t bytes root handles values values objects objects′ (Refused f)
+    primary-refused {values} e = rw (walk-then (message t bytes handles) root) (did-halt 4 _ (rw e at (claimed-root values)))
 
     module _ {c : Cursor} (e : r ≡ On c) where
       opened : (values : List ℕ)
           → Did (length bytes) handles 4 values values objects objects′ start (On c)
-          (claimAt primaryObject root (sizeOf (typeTable rows members) root) (message rows members bytes handles) 0 0 0)
+          (claimAt primaryObject root (sizeOf t root) (message t bytes handles) 0 0 0)
       opened values = rw e at (claimed-root values)
 
-      fits : (c .next ≡ padded (sizeOf (typeTable rows members) root)) × (c .handles ≡ 0) × (c .values ≡ 0) × (c .objects ≡ 4)
-          × (padded (sizeOf (typeTable rows members) root) ≤ length bytes)
+      fits : (c .next ≡ padded (sizeOf t root)) × (c .handles ≡ 0) × (c .values ≡ 0) × (c .objects ≡ 4)
+          × (padded (sizeOf t root) ≤ length bytes)
       fits =
-          let p = claim-on (message rows members bytes handles) primaryObject root (sizeOf (typeTable rows members) root) 0 (opened objects) in
+          let p = claim-on (message t bytes handles) primaryObject root (sizeOf t root) 0 (opened objects) in
           (omega (arith, p .0), p .1, p .2, omega (arith, p .3), omega (arith, p .4))
 
-      pub root-asked : Ready rows members sizes alignments 32 root × Ask (length bytes) handles (sizeOf (typeTable rows members) root) 0 c
+      pub root-asked : Ready t sizes alignments 32 root × Ask (length bytes) handles (sizeOf t root) 0 c
       unfolding padded roundUp
       root-asked =
           let p = fits in (
@@ -92,30 +91,27 @@ module _ {rows members bytes : List ℕ} {root handles : ℕ} {sizes alignments 
           )
 
       pub primary-walked : {values values′ objects″ : List ℕ} {r′ : Walked}
-          → ValueDid rows members bytes handles 32 values values′ objects′ objects″ 0 c root r′
-          → PrimaryDid rows members bytes root handles values values′ objects objects″ r′
+          → ValueDid t bytes handles 32 values values′ objects′ objects″ 0 c root r′
+          → PrimaryDid t bytes root handles values values′ objects objects″ r′
       unfolding padded roundUp
       primary-walked {values} did =
           let p = fits in
-          rw (walk-then (message rows members bytes handles) root) (did-then 4 _ (opened values) did (omega (arith, p .0, p .2, p .3, p .4)))
+          rw (walk-then (message t bytes handles) root) (did-then 4 _ (opened values) did (omega (arith, p .0, p .2, p .3, p .4)))
 
 -- ---- after the walk
 
-module _ (rows members bytes : List ℕ) (root handles : ℕ) {values values′ objects objects′ : List ℕ} {r : Walked}
-    (did : PrimaryDid rows members bytes root handles values values′ objects objects′ r) where
+module _ (t : TypeTable) (bytes : List ℕ) (root handles : ℕ) {values values′ objects objects′ : List ℕ} {r : Walked}
+    (did : PrimaryDid t bytes root handles values values′ objects objects′ r) where
   abbrev here : Message
-  here = message rows members bytes handles
+  here = message t bytes handles
 
   abbrev Ends : Reading → Type 0
-  Ends reading = Passed rows members bytes root handles values values′ objects objects′ reading
+  Ends reading = Passed t bytes root handles values values′ objects objects′ reading
 
-  pub refusal-fits : {s : Stop} → r ≡ Refused s → s .number < 4294967296
-  refusal-fits e = (rw e at did) .within
-
-  pub walk-refused : {s : Stop} {f : Fault} → r ≡ Refused s → f ≡ faultOf s → Ends (Both.Refused f)
-  walk-refused {s} {f} e k = record { answers = go (walk here root) (did .says); valued = did .valued; listed = did .listed }
+  pub walk-refused : {f : Fault} → r ≡ Refused f → Ends (Both.Refused f)
+  walk-refused {f} e = record { answers = go (walk here root) (did .says); valued = did .valued; listed = did .listed }
     where
-      go : (d : Decoded) → walkedOf r ≡ answer start d → refused f ≡ lengthsOf (listsOf (finished here d))
+      go : (d : Decoded) → r ≡ answer start d → refused f ≡ lengthsOf (listsOf (finished here d))
       go (went n u vs t) q = absurd (let w : _≡_ {A = ℕ} 0 1 = cc in omega arith)
       go (stopped g vs t) q = let z : f ≡ g = cc in rw z
 
@@ -130,7 +126,7 @@ module _ (rows members bytes : List ℕ) (root handles : ℕ) {values values′ 
       same true false f g vs t v o = refl
       same false used f g vs t v o = refl
 
-      go : (d : Decoded) → walkedOf r ≡ answer start d → afterWalk end (length bytes) handles ≡ lengthsOf (listsOf (finished here d))
+      go : (d : Decoded) → r ≡ answer start d → afterWalk end (length bytes) handles ≡ lengthsOf (listsOf (finished here d))
       go (went n u vs t) q =
           let z : n ≡ end .next = cc in
           let y : u ≡ end .handles = cc in

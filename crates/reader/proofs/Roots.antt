@@ -21,18 +21,18 @@ module _ (verdict : Soundness) (rows : List ℕ) (root total handles : ℕ) wher
   Answers r = BeforeWalk (Layout.verdictOf verdict) rows root total handles r
 
   pub table-refused : {f : Fault} → verdict ≡ Table.Refused f → Answers (Refused f)
-  table-refused e members = rw e
+  table-refused e t same = rw e
 
   module _ (sound : verdict ≡ Table.Sound) {allowed : Bool} (read : RootIs rows root allowed) where
     pub root-refused : allowed ≡ false → Answers (Refused (fault rootNotAllowed (Row root)))
-    root-refused e members = rw (sound, ← read members, e)
+    root-refused e t same = rw (sound, ← read t same, e)
 
     module _ (e : allowed ≡ true) where
       pub length-refused : {f : Fault} → 65536 < total → f ≡ fault messageTooLong (Byte 0) → Answers (Refused f)
-      length-refused h g members = rw (sound, ← read members, e, lt-leb total 65536 h, g)
+      length-refused h g t same = rw (sound, ← read t same, e, lt-leb total 65536 h, g)
 
       pub handles-refused : total ≤ 65536 → 64 < handles → Answers (Refused (fault tooManyHandles (Amount 0)))
-      handles-refused h k members = rw (sound, ← read members, e, le-leb total 65536 h, lt-leb handles 64 k)
+      handles-refused h k t same = rw (sound, ← read t same, e, le-leb total 65536 h, lt-leb handles 64 k)
 
       pub walk-allowed : total ≤ 65536 → handles ≤ 64 → Answers Accepted
-      walk-allowed h k members = rw (sound, ← read members, e, le-leb total 65536 h, le-leb handles 64 k)
+      walk-allowed h k t same = rw (sound, ← read t same, e, le-leb total 65536 h, le-leb handles 64 k)

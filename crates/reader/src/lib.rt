@@ -1,20 +1,15 @@
 // Checker, reader and object list: document 01, "The walk" and "Numbers and places". They share one walk.
-mod claims;
-mod cursor;
-mod envelopes;
 mod pass;
-mod planned;
-mod records;
-mod scalars;
-mod walk;
 
 ghost use mathlib.Core.Path.{_≡_};
 ghost use lib.ListN.{length};
 ghost use Rattle.rules.specs.declared.Place.the-variants.{Amount};
 ghost use Rattle.rules.specs.Refusals.{fault, lentAfter};
+ghost use Rattle.rules.specs.TypeTable.{typeTable};
 ghost use Rattle.rules.specs.Answers as Rules;
-ghost use Rattle.reader.specs.Doing as Doing;
-ghost use Rattle.reader.specs.Answers.{verdictOf, givenOf, readingOf, lengthOf, lengthsOf, valuesIn, objectsIn};
+ghost use Rattle.rules.specs.Answers.{numbersOf, nothing, counted, bothCounted};
+ghost use Rattle.walk_leaves.specs.Doing as Doing;
+ghost use Rattle.reader.specs.Answers.{verdictOf, verdictNumbers, givenOf, givenNumbers, readingOf, readingNumbers, lengthOf, lengthsOf, valuesIn, objectsIn};
 use pass::judge;
 use pass::pass;
 use rules::Fault;
@@ -56,7 +51,8 @@ fn room_too_small(needed: usize) -> Fault
 
 // Every refusal but 22.
 pub fn check(rows: &[u32], members: &[u32], root: u32, message: &[u8], handles: u64) -> Verdict
-    ensures { λ r. ⌜ verdictOf r ≡ Rules.check (Doing.message (now (rows .entry)) (now (members .entry)) (now (message .entry)) handles) root ⌝ }
+    ensures answer { λ r. ⌜ verdictOf r ≡ Rules.check (Doing.message (typeTable (now (rows .entry)) (now (members .entry))) (now (message .entry)) handles) root ⌝ }
+    ensures numbers { λ r. ⌜ verdictNumbers r ≡ numbersOf 0 nothing (Rules.check (Doing.message (typeTable (now (rows .entry)) (now (members .entry))) (now (message .entry)) handles) root) ⌝ }
 {
     let mut sizes = [0u32; 256];
     let mut alignments = [0u32; 256];
@@ -84,8 +80,9 @@ pub fn read_values(
     handles: u64,
     values: &mut [u64],
 ) -> Given
-    ensures answer { λ r. ⌜ givenOf r ≡ lengthOf (Rules.readValues (Doing.message (now (rows .entry)) (now (members .entry)) (now (message .entry)) handles) root (length (now (values .entry)))) ⌝ }
-    ensures list { λ _. ⌜ now (values .exit) ≡ lentAfter (Rules.readValues (Doing.message (now (rows .entry)) (now (members .entry)) (now (message .entry)) handles) root (length (now (values .entry)))) (now (values .entry)) ⌝ }
+    ensures answer { λ r. ⌜ givenOf r ≡ lengthOf (Rules.readValues (Doing.message (typeTable (now (rows .entry)) (now (members .entry))) (now (message .entry)) handles) root (length (now (values .entry)))) ⌝ }
+    ensures list { λ _. ⌜ now (values .exit) ≡ lentAfter (Rules.readValues (Doing.message (typeTable (now (rows .entry)) (now (members .entry))) (now (message .entry)) handles) root (length (now (values .entry)))) (now (values .entry)) ⌝ }
+    ensures numbers { λ r. ⌜ givenNumbers r ≡ numbersOf 1 counted (Rules.readValues (Doing.message (typeTable (now (rows .entry)) (now (members .entry))) (now (message .entry)) handles) root (length (now (values .entry)))) ⌝ }
 {
     let mut sizes = [0u32; 256];
     let mut alignments = [0u32; 256];
@@ -129,8 +126,9 @@ pub fn read_objects(
     handles: u64,
     objects: &mut [u32],
 ) -> Given
-    ensures answer { λ r. ⌜ givenOf r ≡ lengthOf (Rules.readObjects (Doing.message (now (rows .entry)) (now (members .entry)) (now (message .entry)) handles) root (length (now (objects .entry)))) ⌝ }
-    ensures list { λ _. ⌜ now (objects .exit) ≡ lentAfter (Rules.readObjects (Doing.message (now (rows .entry)) (now (members .entry)) (now (message .entry)) handles) root (length (now (objects .entry)))) (now (objects .entry)) ⌝ }
+    ensures answer { λ r. ⌜ givenOf r ≡ lengthOf (Rules.readObjects (Doing.message (typeTable (now (rows .entry)) (now (members .entry))) (now (message .entry)) handles) root (length (now (objects .entry)))) ⌝ }
+    ensures list { λ _. ⌜ now (objects .exit) ≡ lentAfter (Rules.readObjects (Doing.message (typeTable (now (rows .entry)) (now (members .entry))) (now (message .entry)) handles) root (length (now (objects .entry)))) (now (objects .entry)) ⌝ }
+    ensures numbers { λ r. ⌜ givenNumbers r ≡ numbersOf 1 counted (Rules.readObjects (Doing.message (typeTable (now (rows .entry)) (now (members .entry))) (now (message .entry)) handles) root (length (now (objects .entry)))) ⌝ }
 {
     let mut sizes = [0u32; 256];
     let mut alignments = [0u32; 256];
@@ -175,9 +173,10 @@ pub fn read(
     values: &mut [u64],
     objects: &mut [u32],
 ) -> Reading
-    ensures answer { λ r. ⌜ readingOf r ≡ lengthsOf (Rules.read (Doing.message (now (rows .entry)) (now (members .entry)) (now (message .entry)) handles) root (length (now (values .entry))) (length (now (objects .entry)))) ⌝ }
-    ensures values { λ _. ⌜ now (values .exit) ≡ lentAfter (valuesIn (Rules.read (Doing.message (now (rows .entry)) (now (members .entry)) (now (message .entry)) handles) root (length (now (values .entry))) (length (now (objects .entry))))) (now (values .entry)) ⌝ }
-    ensures objects { λ _. ⌜ now (objects .exit) ≡ lentAfter (objectsIn (Rules.read (Doing.message (now (rows .entry)) (now (members .entry)) (now (message .entry)) handles) root (length (now (values .entry))) (length (now (objects .entry))))) (now (objects .entry)) ⌝ }
+    ensures answer { λ r. ⌜ readingOf r ≡ lengthsOf (Rules.read (Doing.message (typeTable (now (rows .entry)) (now (members .entry))) (now (message .entry)) handles) root (length (now (values .entry))) (length (now (objects .entry)))) ⌝ }
+    ensures values { λ _. ⌜ now (values .exit) ≡ lentAfter (valuesIn (Rules.read (Doing.message (typeTable (now (rows .entry)) (now (members .entry))) (now (message .entry)) handles) root (length (now (values .entry))) (length (now (objects .entry))))) (now (values .entry)) ⌝ }
+    ensures objects { λ _. ⌜ now (objects .exit) ≡ lentAfter (objectsIn (Rules.read (Doing.message (typeTable (now (rows .entry)) (now (members .entry))) (now (message .entry)) handles) root (length (now (values .entry))) (length (now (objects .entry))))) (now (objects .entry)) ⌝ }
+    ensures numbers { λ r. ⌜ readingNumbers r ≡ numbersOf 2 bothCounted (Rules.read (Doing.message (typeTable (now (rows .entry)) (now (members .entry))) (now (message .entry)) handles) root (length (now (values .entry))) (length (now (objects .entry)))) ⌝ }
 {
     let mut sizes = [0u32; 256];
     let mut alignments = [0u32; 256];

@@ -3,24 +3,24 @@ ghost use mathlib.Core.Path.{_≡_};
 ghost use lib.ListN.{length};
 ghost use Rattle.rules.specs.TypeTable.{typeTable};
 ghost use Rattle.layout.specs.Answers as Layout;
-ghost use Rattle.layout.specs.Answers.{keptSizes, keptAlignments};
-ghost use Rattle.reader.specs.Doing.{message};
+ghost use Rattle.layout.specs.Answers.{keptSizes, keptAlignments, givenIfSound};
+ghost use Rattle.layout.specs.Kept.{Zeroed};
+ghost use Rattle.walk_leaves.specs.Doing.{message};
 ghost use Rattle.reader.specs.Answers.{readingOf};
 ghost use Rattle.reader.specs.Passing.{BeforeWalk, Walkable, PrimaryDid, afterWalk, Passed, judgedLengths};
 use crate::Lengths;
 use crate::Reading;
 use crate::Verdict;
-use crate::claims::claim;
-use crate::cursor::Cursor;
-use crate::cursor::Walked;
-use crate::cursor::fault_at;
-use crate::cursor::fault_of;
-use crate::walk::value;
 use layout::Soundness;
-use layout::prepare;
+use layout::climb::climb;
 use layout::root_allowed;
 use rules::Fault;
 use rules::Place;
+use walk::cycle::value;
+use walk_leaves::claims::claim;
+use walk_leaves::cursor::Cursor;
+use walk_leaves::cursor::Walked;
+use walk_leaves::cursor::fault_at;
 
 // Before the walk: 1, 2, 3, 4.
 fn before(verdict: Soundness, rows: &[u32], root: u32, length: usize, handles: u64) -> Verdict
@@ -59,8 +59,8 @@ fn primary(
     values: &mut [u64],
     objects: &mut [u32],
 ) -> Walked
-    requires { ⌜ Walkable (now rows) (now members) (now bytes) root held (now sizes) (now alignments) ⌝ }
-    ensures { λ r. ⌜ PrimaryDid (now (rows .entry)) (now (members .entry)) (now (bytes .entry)) root held (now (values .entry)) (now (values .exit)) (now (objects .entry)) (now (objects .exit)) r ⌝ }
+    requires { ⌜ Walkable (typeTable (now rows) (now members)) (now bytes) root held (now sizes) (now alignments) ⌝ }
+    ensures { λ r. ⌜ PrimaryDid (typeTable (now (rows .entry)) (now (members .entry))) (now (bytes .entry)) root held (now (values .entry)) (now (values .exit)) (now (objects .entry)) (now (objects .exit)) r ⌝ }
 {
     let start = Cursor {
         next: 0,
@@ -111,7 +111,7 @@ fn after(end: Cursor, length: usize, held: usize) -> Reading
 }
 
 // One walk of a message, with the tests after it. What there is no room for is counted and not stored.
-pub fn pass(
+pub(crate) fn pass(
     rows: &[u32],
     members: &[u32],
     sizes: &[u32; 256],
@@ -122,8 +122,8 @@ pub fn pass(
     values: &mut [u64],
     objects: &mut [u32],
 ) -> Reading
-    requires { ⌜ Walkable (now rows) (now members) (now bytes) root handles (now sizes) (now alignments) ⌝ }
-    ensures { λ r. ⌜ Passed (now (rows .entry)) (now (members .entry)) (now (bytes .entry)) root handles (now (values .entry)) (now (values .exit)) (now (objects .entry)) (now (objects .exit)) r ⌝ }
+    requires { ⌜ Walkable (typeTable (now rows) (now members)) (now bytes) root handles (now sizes) (now alignments) ⌝ }
+    ensures { λ r. ⌜ Passed (typeTable (now (rows .entry)) (now (members .entry))) (now (bytes .entry)) root handles (now (values .entry)) (now (values .exit)) (now (objects .entry)) (now (objects .exit)) r ⌝ }
 {
     let held = handles as usize;
     match primary(
@@ -137,13 +137,14 @@ pub fn pass(
         values,
         objects,
     ) {
-        Walked::Refused(s) => Reading::Refused(fault_of(s)),
+        Walked::Refused(f) => Reading::Refused(f),
         Walked::On(end) => after(end, bytes.len(), held),
     }
 }
 
-// Every test of the checker, by a walk that stores nothing. The arrays lent get the sizes and the alignments that it goes by.
-pub fn judge(
+// Every test of the checker, by a walk that stores nothing. The arrays lent, zero before, get the sizes and the alignments that
+// it goes by.
+pub(crate) fn judge(
     rows: &[u32],
     members: &[u32],
     sizes: &mut [u32; 256],
@@ -152,11 +153,16 @@ pub fn judge(
     bytes: &[u8],
     handles: u64,
 ) -> Reading
-    ensures answer { λ r. ⌜ readingOf r ≡ judgedLengths (message (now (rows .entry)) (now (members .entry)) (now (bytes .entry)) handles) root ⌝ }
-    ensures sizes { λ _. ⌜ now (sizes .exit) ≡ keptSizes (typeTable (now (rows .entry)) (now (members .entry))) ⌝ }
-    ensures alignments { λ _. ⌜ now (alignments .exit) ≡ keptAlignments (typeTable (now (rows .entry)) (now (members .entry))) ⌝ }
+    requires { ⌜ Zeroed (now sizes) × Zeroed (now alignments) ⌝ }
+    ensures answer { λ r. ⌜ readingOf r ≡ judgedLengths (message (typeTable (now (rows .entry)) (now (members .entry))) (now (bytes .entry)) handles) root ⌝ }
+    ensures sizes { λ _.
+        let t = typeTable (now (rows .entry)) (now (members .entry)) in
+        ⌜ now (sizes .exit) ≡ givenIfSound t (keptSizes t) (now (sizes .entry)) ⌝ }
+    ensures alignments { λ _.
+        let t = typeTable (now (rows .entry)) (now (members .entry)) in
+        ⌜ now (alignments .exit) ≡ givenIfSound t (keptAlignments t) (now (alignments .entry)) ⌝ }
 {
-    let verdict = prepare(rows, members, sizes, alignments);
+    let verdict = climb(rows, members, sizes, alignments);
     if let Verdict::Refused(f) = before(verdict, rows, root, bytes.len(), handles) {
         return Reading::Refused(f);
     }

@@ -1,17 +1,9 @@
 // Sends each message of the number stream on standard input there and back: it is checked and read, and what was read is
 // written and compared. A refused one is reported, with its line, its number and its place; at the end stand the counts. A
 // line is a message: row list, member list, root, bytes and handle count. vectors/make.py makes the stream from the vector files.
-ghost use mathlib.Core.Path.{_≡_};
-ghost use Prim.Native.Nat.{_<_};
-ghost use lib.ListN.{length};
-ghost use Rattle.io.specs.Counts.{Counts};
 use demands::Trip;
 
-// Room for the stream, for the numbers of one line, for the lists of a type table, and for a message and its values.
-const TEXT_ROOM: usize = 524288;
-
-const LINE_ROOM: usize = 16384;
-
+// Room for the lists of a type table, and for a message and its values.
 const LIST_ROOM: usize = 4096;
 
 const MESSAGE_ROOM: usize = 4096;
@@ -20,30 +12,17 @@ const MESSAGE_ROOM: usize = 4096;
 const OUTCOMES: usize = 3;
 
 fn main() {
-    let mut text = text_room();
+    let mut text = stream::text_room();
     let count = io::read_full(0, &mut text);
-    if count == TEXT_ROOM {
+    if count == stream::TEXT_ROOM {
         io::write_all(1, b"the stream is too long\n");
         return;
     }
     run(&text[..count]);
 }
 
-// The contracts of the rooms give the lengths alone, so that no proof goes into a long list.
-fn text_room() -> [u8; TEXT_ROOM]
-    ensures { λ r. ⌜ 524288 ≡ length r ⌝ }
-{
-    [0; TEXT_ROOM]
-}
-
-fn line_room() -> [u64; LINE_ROOM]
-    ensures { λ r. ⌜ 16384 ≡ length r ⌝ }
-{
-    [0; LINE_ROOM]
-}
-
 fn run(text: &[u8]) {
-    let mut numbers = line_room();
+    let mut numbers = stream::line_room();
     let mut counts = [0u64; OUTCOMES];
     let mut line: usize = 0;
     let mut at = 0;
@@ -95,30 +74,10 @@ fn told(line: usize, trip: Trip) -> usize {
     }
 }
 
-// How many numbers of a line's row list and member list were put into the rooms, and where the rest of the line starts.
-struct Table {
-    rows: usize,
-    members: usize,
-    next: usize,
-}
-
-fn put_table(numbers: &[u64], rows: &mut [u32], members: &mut [u32]) -> Table
-    ensures { λ r. ⌜ Counts (r .rows) (now (rows .exit)) × Counts (r .members) (now (members .exit)) × (r .next < 4611686018427387904) ⌝ }
-{
-    let row_list = stream::list(numbers, 0);
-    let at_members = 1 + row_list.len();
-    let member_list = stream::list(numbers, at_members);
-    Table {
-        rows: stream::to_words(row_list, rows),
-        members: stream::to_words(member_list, members),
-        next: at_members + 1 + member_list.len(),
-    }
-}
-
 fn there_and_back(numbers: &[u64]) -> Trip {
     let mut rows = [0u32; LIST_ROOM];
     let mut members = [0u32; LIST_ROOM];
-    let t = put_table(numbers, &mut rows, &mut members);
+    let t = stream::put_table(numbers, &mut rows, &mut members);
     let root = (words::value_at(numbers, t.next) % 4294967296) as u32;
     let bytes = stream::list(numbers, t.next + 1);
     let mut message = [0u8; MESSAGE_ROOM];

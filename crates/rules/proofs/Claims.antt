@@ -33,26 +33,26 @@ take-form (taken h) = record {
   whole = omega arith;
 }
 
-take-decodes : (m : Message) (word-at : ℕ) {vs : List ℕ} {at n u : ℕ} {inl ool : List ℕ} {n₁ u₁ : ℕ} {rest : List ℕ} → Taken 1 vs n u inl ool n₁ u₁ rest → u₁ ≤ m .handles
-    → Decodes (D.takeHandles m word-at presentHandle) at n u n₁ u₁ vs rest
+take-decodes : (m : Message) (word-at place : ℕ) {vs : List ℕ} {at n u : ℕ} {inl ool : List ℕ} {n₁ u₁ : ℕ} {rest : List ℕ} → Taken 1 vs n u inl ool n₁ u₁ rest → u₁ ≤ m .handles
+    → Decodes (D.takeHandles m word-at (presentHandle place)) at n u n₁ u₁ vs rest
 unfolding D.takeHandles
-take-decodes m word-at {u = u} (taken h) l =
+take-decodes m word-at place {u = u} (taken h) l =
     let z : leb (u + 1) (m .handles) ≡ true = le-leb (u + 1) (m .handles) l in
-    decodes [] (presentHandle ∷ []) (rw z)
+    decodes [] (presentHandle place ∷ []) (rw z)
 
-take-encodes : (m : Message) → m .handles ≤ 64 → {at n u n₁ u₁ : ℕ} {vs : List ℕ} {t : List Event} → Took m presentHandle n u n₁ u₁ vs t → at ≤ length (m .bytes) → n ≤ length (m .bytes)
-    → (rest : List ℕ) → Encodes m (E.takeHandles 1) at n u n₁ u₁ vs t rest
+take-encodes : (m : Message) → m .handles ≤ 64 → (place : ℕ) {at n u n₁ u₁ : ℕ} {vs : List ℕ} {t : List Event} → Took m (presentHandle place) n u n₁ u₁ vs t → at ≤ length (m .bytes)
+    → n ≤ length (m .bytes) → (rest : List ℕ) → Encodes m (E.takeHandles 1) at n u n₁ u₁ vs t rest
 unfolding E.takeHandles objectList presentHandles unknownHandles unknownOutOfLine unknownLengths Tiles
-take-encodes m few {at} {n} {u} (took h) p k rest =
+take-encodes m few place {at} {n} {u} (took h) p k rest =
     let z : leb (u + 1) 64 ≡ true = le-leb (u + 1) 64 (omega arith) in
     record { inl = []; ool = []; writes = rw z; inline = stands-nil (m .bytes) at p; outOfLine = stands-nil (m .bytes) n k; tiles = refl; handles = omega arith; unknowns = refl }
 
 -- A present handle. Unknown content takes handles too: Unknown.antt.
-pub twins-handle : (m : Message) → m .handles ≤ 64 → (word-at : ℕ) → Twins m 0 (D.takeHandles m word-at presentHandle) (E.takeHandles 1)
-twins-handle m few word-at = record {
+pub twins-handle : (m : Message) → m .handles ≤ 64 → (word-at place : ℕ) → Twins m 0 (D.takeHandles m word-at (presentHandle place)) (E.takeHandles 1)
+twins-handle m few word-at place = record {
   wellFormed = λ {vs} {n} {u} e. take-form (taken-inv 1 vs n u e);
-  decodesWhatWasEncoded = λ {vs} {n} {u} e h k l. take-decodes m word-at (taken-inv 1 vs n u e) l;
-  encodesWhatWasDecoded = λ {at} {n} {u} e h k rest. take-encodes m few (took-inv m word-at presentHandle at n u e) (omega arith) k rest;
+  decodesWhatWasEncoded = λ {vs} {n} {u} e h k l. take-decodes m word-at place (taken-inv 1 vs n u e) l;
+  encodesWhatWasDecoded = λ {at} {n} {u} e h k rest. take-encodes m few place (took-inv m word-at (presentHandle place) at n u e) (omega arith) k rest;
 }
 
 -- ---- records

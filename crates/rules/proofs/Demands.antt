@@ -22,14 +22,16 @@ use Rattle.rules.specs.Encode as E
 use Rattle.rules.specs.Encode.{Encoded, wrote, cannot}
 use Rattle.rules.specs.Walk as W
 use Rattle.rules.specs.Writer as R
-use Rattle.rules.specs.Answers.{walk, Reading, finished, judged, check, readValues, readObjects, Written, closed, encode, written, write}
-use Rattle.rules.specs.Demands.{message, Accepted, HasValue, HasObjects, IsWrittenTo, Demand2, Canonical, Demand3}
+use Rattle.rules.specs.Answers.{walk, Reading, finished, judged, check, readValues, readObjects, read, Written, closed, encode, written, write}
+use Rattle.rules.specs.Demands.{message, Accepted, HasValue, HasObjects, HasBoth, IsWrittenTo, Demand2, Canonical, Demand3}
 use Rattle.rules.proofs.Bytes.{StandsAt, stands-nil, octets-nil}
 use Rattle.rules.proofs.Trace.{allHandles, UnknownAreObjects}
 use Rattle.rules.proofs.Twins.{WellFormed, Decodes, decodes, Encodes, Twins}
 use Rattle.rules.proofs.Claims.{twins-claim}
 use Rattle.rules.proofs.Envelopes.{nil-of}
 use Rattle.rules.proofs.WalkTwins.{twins-row, twins-levels}
+use Rattle.rules.proofs.Events.{Met}
+use Rattle.rules.proofs.WalkEvents.{walk-true}
 
 -- ---- answers that were accepted
 
@@ -63,12 +65,12 @@ stands-self : (bytes : List ℕ) → StandsAt bytes 0 bytes
 stands-self bytes = record { fits = omega arith; same = part-whole bytes }
 
 -- Every test that an accepted message passed.
-record Passed (m : Message) (root : ℕ) (r : Reading) : Type 0 where
-  sound : soundness (m .table) ≡ accepted tt
-  allowed : rootAllowed (m .table) root ≡ true
-  short : leb (length (m .bytes)) 65536 ≡ true
-  few : leb (m .handles) 64 ≡ true
-  walked : walk m root ≡ went (length (m .bytes)) (m .handles) (r .values) (r .trace)
+pub record Passed (m : Message) (root : ℕ) (r : Reading) : Type 0 where
+  pub sound : soundness (m .table) ≡ accepted tt
+  pub allowed : rootAllowed (m .table) root ≡ true
+  pub short : leb (length (m .bytes)) 65536 ≡ true
+  pub few : leb (m .handles) 64 ≡ true
+  pub walked : walk m root ≡ went (length (m .bytes)) (m .handles) (r .values) (r .trace)
 
 finished-inv : (m : Message) (d : Decoded) (r : Reading) → finished m d ≡ accepted r → d ≡ went (length (m .bytes)) (m .handles) (r .values) (r .trace)
 finished-inv m (stopped f vs t) r e = absurd (refused-not-accepted e)
@@ -83,7 +85,7 @@ finished-inv m (went n u vs t) r e =
     let y : u ≡ m .handles = eqb-true u (m .handles) (j .0) in
     rw (x, y, v, w)
 
-passed : (m : Message) (root : ℕ) (r : Reading) → judged m root ≡ accepted r → Passed m root r
+pub passed : (m : Message) (root : ℕ) (r : Reading) → judged m root ≡ accepted r → Passed m root r
 unfolding judged
 passed m root r e =
     let s = then-accepted (soundness (m .table)) _ e in
@@ -189,6 +191,10 @@ module _ (t : TypeTable) (root : ℕ) where
       let b : leb (length (objectList (r .trace))) room ≡ true = room-enough _ room h in
       rw (e, b)
 
+  both-of : (bytes values objects : List ℕ) (handles : ℕ) → HasValue t root bytes handles values → HasObjects t root bytes handles objects → HasBoth t root bytes handles values objects
+  unfolding read
+  both-of bytes values objects handles v o values-room objects-room values-fit objects-fit = rw (o objects-room objects-fit, v values-room values-fit)
+
   written-to : (values bytes : List ℕ) (handles : ℕ) → written t root values ≡ accepted (record { bytes = bytes; handles = handles }) → IsWrittenTo t root values bytes handles
   unfolding write
   written-to values bytes handles e room h =
@@ -232,7 +238,8 @@ module _ (t : TypeTable) (root : ℕ) where
     );
     readingGivesTheValue = λ bytes handles values w.
         let i = reads (message t root bytes handles) root values (written-inv values bytes handles w) in
-        value-of bytes values handles _ (i .1) refl;
+        let v = value-of bytes values handles _ (i .1) refl in
+        (v, (objectList (i .0), both-of bytes values (objectList (i .0)) handles v (objects-of bytes handles _ (i .1))));
     writingGivesTheMessage = λ bytes handles values oct v.
         let i = value-inv bytes values handles v in
         let w : IsWrittenTo t root (i .0 .values) bytes handles = encoded bytes handles (i .0) oct (i .1) in
@@ -243,6 +250,7 @@ module _ (t : TypeTable) (root : ℕ) where
   canonical-of bytes handles r oct e =
       let s = says (message t root bytes handles) root r oct e in
       let p = passed (message t root bytes handles) root r e in
+      let met : Met bytes (r .trace) = rw (p .walked) at (walk-true (message t root bytes handles) root) in
       record {
         values = r .values;
         objects = objectList (r .trace);
@@ -250,11 +258,14 @@ module _ (t : TypeTable) (root : ℕ) where
         traceIsTheWalks = rw (p .walked);
         hasValue = value-of bytes (r .values) handles r e refl;
         hasObjects = objects-of bytes handles r e;
+        hasBoth = both-of bytes (r .values) (objectList (r .trace)) handles (value-of bytes (r .values) handles r e refl) (objects-of bytes handles r e);
         roundTrip = encoded bytes handles r oct e;
         objectsAreClaims = refl;
         unknownContentIsAnObject = s .unknowns;
         objectsTile = s .tiles;
+        fillsAreZero = met .0;
         handlesAddUp = s .handles;
+        presentHandlesAreOnes = met .1;
       }
 
   same-written : (values bytes bytes₂ : List ℕ) (handles handles₂ : ℕ) → IsWrittenTo t root values bytes handles → IsWrittenTo t root values bytes₂ handles₂ → (bytes ≡ bytes₂) × (handles ≡ handles₂)

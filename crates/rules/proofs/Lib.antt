@@ -1,4 +1,5 @@
 pub mod Cases
+pub mod Tests
 pub mod Bytes
 pub mod Trace
 pub mod Results
@@ -9,5 +10,10 @@ pub mod Envelopes
 pub mod Presence
 pub mod Unknown
 pub mod WalkTwins
+pub mod Events
+pub mod WalkEvents
 pub mod Demands
 pub mod Rooms
+pub mod Numbers
+pub mod Edition
+pub mod Amounts

@@ -16,7 +16,7 @@ use Rattle.rules.specs.Records.{Judged, passes, fails, readIf, writeIf, 
 use Rattle.rules.proofs.Bytes.{octets-bytesOf, octets-append, bytesOf-length, StandsAt, stands-left, stands-right, stands-join, word-standing, standing-word, word-below}
 use Rattle.rules.proofs.Claims.{RecordTwins}
 
-wrong-not-got : {f : Fault} {v : ℕ} → wrong f ≡ got v → ⊥
+pub wrong-not-got : {f : Fault} {v : ℕ} → wrong f ≡ got v → ⊥
 wrong-not-got e = let z : _≡_ {A = ℕ} 0 1 = cc in omega arith
 
 unfit-not-put : {bytes : List ℕ} → unfit ≡ put bytes → ⊥
@@ -24,7 +24,7 @@ unfit-not-put e = let z : _≡_ {A = ℕ} 0 1 = cc in omega arith
 
 -- ---- tests that were passed
 
-readIf-inv : (j : Judged) (at : ℕ) (r : ReadRecord) {v : ℕ} → readIf j at r ≡ got v → (j ≡ passes) × (r ≡ got v)
+pub readIf-inv : (j : Judged) (at : ℕ) (r : ReadRecord) {v : ℕ} → readIf j at r ≡ got v → (j ≡ passes) × (r ≡ got v)
 readIf-inv passes at r e = (refl, e)
 readIf-inv (fails number) at r e = absurd (wrong-not-got e)
 
@@ -65,7 +65,7 @@ absent-zero : (ones w : ℕ) → presence ones w ≡ absent → w ≡ 0
 unfolding presence
 absent-zero ones w e = presence-go ones w (eqb w 0) (eqb w ones) refl refl .0 e
 
-present-ones : (ones w : ℕ) → presence ones w ≡ present → w ≡ ones
+pub present-ones : (ones w : ℕ) → presence ones w ≡ present → w ≡ ones
 unfolding presence
 present-ones ones w e = presence-go ones w (eqb w 0) (eqb w ones) refl refl .1 e
 

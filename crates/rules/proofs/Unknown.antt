@@ -18,6 +18,7 @@ use Rattle.rules.specs.Encode as E
 use Rattle.rules.specs.Encode.{wrote, Encoder}
 use Rattle.rules.specs.Records.{anyPattern}
 use Rattle.rules.specs.Envelope.{decodeWord, encodeWord, inLine, outOfLine, envelopeBytes, lowWord, handleNumber, flags, wholeWords, unknownEnvelope, byteNumberFits, handleNumberFits, wordFits, writeWords, writeUnknownInLine, writeUnknownOutOfLine}
+use Rattle.rules.proofs.Tests.{both}
 use Rattle.rules.proofs.Bytes.{StandsAt, stands-nil, stands-left, stands-right, stands-join, octets-append, octets-bytesOf, octets-nil, bytesOf-length, word-standing, standing-word, word-below, word-add, word-zeros, padded-above}
 use Rattle.rules.proofs.Results.{cannot-not-wrote, require-inv, write-require-inv, After, after-inv, WriteAfter, write-after-inv, Then, then-inv, WriteThen, write-then-inv, Took, took, took-inv, Taken, taken, taken-inv, AsObject, object, object-inv}
 use Rattle.rules.proofs.Twins.{WellFormed, Decodes, decodes, Encodes, Twins, twins-nothing, twins-size, twins-elements, zero-standing, standing-zero}
@@ -25,10 +26,6 @@ use Rattle.rules.proofs.Claims.{twins-record, object-form, object-stand
 use Rattle.rules.proofs.Records.{number-twins}
 use Rattle.rules.proofs.Envelopes.{tail-stands, stands-tail}
 use Rattle.rules.proofs.Presence.{NeverZero}
-
-and-inv : (a b : Bool) → a && b ≡ true → (a ≡ true) × (b ≡ true)
-and-inv true b e = (refl, e)
-and-inv false b e = let z : _≡_ {A = ℕ} 0 1 = cc in absurd (omega arith)
 
 -- ---- words
 
@@ -157,7 +154,7 @@ content-go : (x : ℕ) (b : Bool) → eqb x 0 ≡ b → byteNumberFits x ≡ tru
     → (if b then writeUnknownInLine else writeUnknownOutOfLine x) vs n u ≡ wrote inl ool n₁ u₁ rest → Wrote n u rest n₁ u₁ (x ∷ vs) inl ool
 content-go x true q f vs e = let z : x ≡ 0 = eqb-true x 0 q in rw z (inside-inv vs e)
 content-go x false q f vs e =
-    let i = and-inv (eqb (x % 8) 0) (ltb x 4294967296) f in
+    let i = both (eqb (x % 8) 0) (ltb x 4294967296) f in
     let positive : (x ≡ 0 → ⊥) = eqb-false x 0 q in
     outside-inv x (omega arith) (eqb-true (x % 8) 0 (i .0)) (ltb-true x 4294967296 (i .1)) vs e
 
@@ -330,8 +327,8 @@ module _ (m : Message) (oct : Octets (m .bytes)) (short : length (m .bytes) ≤ 
       → eqb (flags m at) outOfLine && wholeWords m (lowWord m at) ≡ true → at + 8 ≤ length (m .bytes) → (rest : List ℕ) → Encodes m writeContent at n u n₁ u₁ vs t rest
   unfolding D.claim
   outside-emitted {at} {n} {u} (After.after e) f l rest =
-      let i = and-inv (eqb (flags m at) outOfLine) (wholeWords m (lowWord m at)) f in
-      let j = and-inv (eqb (lowWord m at % 8) 0) (ltb 0 (lowWord m at)) (i .1) in
+      let i = both (eqb (flags m at) outOfLine) (wholeWords m (lowWord m at)) f in
+      let j = both (eqb (lowWord m at % 8) 0) (ltb 0 (lowWord m at)) (i .1) in
       let c = require-inv (leb (n + padded (lowWord m at)) (length (m .bytes))) (fault objectDoesNotFit (Byte n)) _ e in
       let z = require-inv (D.isZero m (n + lowWord m at) (padded (lowWord m at) - lowWord m at)) _ _ (c .1) in
       outside-claimed (record {
@@ -368,8 +365,8 @@ module _ (m : Message) (oct : Octets (m .bytes)) (short : length (m .bytes) ≤ 
   form-not-zero at n u r s true q e l z = omega (arith, word-add (m .bytes) at 6 2 (omega arith), eqb-true (flags m at) inLine q)
   form-not-zero at n u r s false q e l z =
       let f = require-inv (eqb (flags m at) outOfLine && wholeWords m (lowWord m at)) (fault envelopeFormWrong (Byte at)) s e in
-      let i = and-inv (eqb (flags m at) outOfLine) (wholeWords m (lowWord m at)) (f .0) in
-      let j = and-inv (eqb (lowWord m at % 8) 0) (ltb 0 (lowWord m at)) (i .1) in
+      let i = both (eqb (flags m at) outOfLine) (wholeWords m (lowWord m at)) (f .0) in
+      let j = both (eqb (lowWord m at % 8) 0) (ltb 0 (lowWord m at)) (i .1) in
       omega (arith, word-add (m .bytes) at 4 4 (omega arith), ltb-true 0 (lowWord m at) (j .1))
 
   pub never-zero-content : NeverZero m 8 walkContent

@@ -152,7 +152,7 @@ module _ (m : Message) (oct : Octets (m .bytes)) (short : length (m .bytes) ≤ 
 
   twins-after-handle : (at v : ℕ) → Twins m 0 (W.afterHandle m at v) (R.afterHandle (m .table) v)
   twins-after-handle at zero = twins-nothing m
-  twins-after-handle at (suc v) = twins-handle m few at
+  twins-after-handle at (suc v) = twins-handle m few at _
 
   module _ {d : D.Deeper} {e : E.Deeper} (g : DeeperTwins m d e) where
     twins-after-vector : (row element at v : ℕ) → Twins m 0 (W.afterVector m d row element at v) (R.afterVector (m .table) e element v)

@@ -6,7 +6,8 @@ use lib.Dec.{leb, ltb, eqb}
 use lib.ListN.{length}
 use Rattle.rules.specs.declared.Place.the-variants.{Byte, Index, Amount}
 use Rattle.rules.specs.declared.Layout.{Layout}
-use Rattle.rules.specs.Refusals.{fault, messageTooLong, tooManyHandles, bytesLeft, handlesLeft, roomTooSmall, notAValue, Answer, accepted, refused, require, andThen, lentAfter}
+use Rattle.rules.specs.Refusals.{fault, placeNumber, messageTooLong, tooManyHandles, bytesLeft, handlesLeft, roomTooSmall, notAValue, Answer, accepted, refused, require, andThen, lentAfter}
+use Rattle.rules.specs.Bytes.{zeros}
 use Rattle.rules.specs.TypeTable.{TypeTable, rowCount}
 use Rattle.rules.specs.Sizes.{layoutOf, sizeOf}
 use Rattle.rules.specs.Sound.{soundness, rootAllowed, requireRow}
@@ -70,7 +71,7 @@ pub record Lists : Type 0 where
   pub values : List ℕ
   pub objects : List ℕ
 
--- "With both lists lent, objects first."
+-- 22 of the objects comes first: "with both lists lent, objects first".
 unfoldable pub read : Message → (root values-room objects-room : ℕ) → Answer Lists
 read m root values-room objects-room =
     andThen (readObjects m root objects-room) (λ objects.
@@ -83,7 +84,7 @@ pub record Written : Type 0 where
   pub bytes : List ℕ
   pub handles : ℕ
 
--- "Then 26 for numbers left." A refusal's index is how many numbers stand before the one judged.
+-- "then 26 for numbers left": 26 at the first of them. A refusal's index is how many numbers stand before the one judged.
 abbrev pub closed : (total : ℕ) → Encoded → Answer Written
 closed total (wrote inline outOfLine next used []) = accepted (record { bytes = outOfLine; handles = used })
 closed total (wrote inline outOfLine next used (v ∷ rest)) = refused (fault notAValue (Index (total - length (v ∷ rest))))
@@ -92,14 +93,14 @@ closed total (cannot number left) = refused (fault number (Index (total - left))
 unfoldable pub encode : TypeTable → (root : ℕ) → (values : List ℕ) → Encoded
 encode t root values = E.claim (sizeOf t root) (R.encodeRow t (R.levels t 32) root) values 0 0
 
--- "The writer walks the list in the same order: 1, 2, then whichever of 26, 5, 3, 4 is met first, then 26 for numbers left,"
+-- "The writer walks the list in the same order: 1, 2, then whichever of 26, 5, 3, 4 is met first"; then 26 for numbers left,
 unfoldable pub written : TypeTable → (root : ℕ) → (values : List ℕ) → Answer Written
 written t root values =
     andThen (soundness t) (λ sound.
     let closed-list = closed (length values) (encode t root values) in
     requireRow (rootAllowed t root) root closed-list)
 
--- "then 22 in bytes. Success answers the byte and handle counts."
+-- "then 22 in bytes". "Success answers the byte and handle counts."
 unfoldable pub write : TypeTable → (root : ℕ) → (values : List ℕ) → (room : ℕ) → Answer Written
 write t root values room = andThen (written t root values) (λ w. requireRoom (length (w .bytes)) room (accepted w))
 
@@ -109,6 +110,39 @@ outputAfter answer output = lentAfter (andThen answer (λ w. accepted (w .bytes)
 
 -- ---- layout
 
--- "The layout calculator answers size and alignment of any row; it refuses with 1, then 2 for a row that doesn't exist."
+-- "The layout calculator answers size and alignment of any row; it refuses with 1, then 2 for a row that doesn't exist, place that row."
 unfoldable pub layoutAnswer : TypeTable → (row : ℕ) → Answer Layout
 layoutAnswer t row = andThen (soundness t) (λ sound. requireRow (ltb row (rowCount t)) row (accepted (layoutOf t row)))
+
+-- ---- the numbers answered
+
+-- What an operation answers in document 01's numbers: number and place, and the other numbers, its values.
+pub record Numbers : Type 0 where
+  pub number : ℕ
+  pub place : ℕ
+  pub values : List ℕ
+
+-- "An accepted answer is 0, place 0. A refusal gives number and place, and its place names what was judged; other numbers answered are 0."
+abbrev pub numbersOf : {A : Type 0} (count : ℕ) (values : A → List ℕ) → Answer A → Numbers
+numbersOf count values (accepted a) = record { number = 0; place = 0; values = values a }
+numbersOf count values (refused f) = record { number = f .number; place = placeNumber (f .place); values = zeros count }
+
+-- The values: of the checker none,
+abbrev pub nothing : Unit {0} → List ℕ
+nothing u = []
+
+-- of the layout calculator size and alignment,
+abbrev pub laid : Layout → List ℕ
+laid l = l .size ∷ l .alignment ∷ []
+
+-- of a list how many numbers it has,
+abbrev pub counted : List ℕ → List ℕ
+counted list = length list ∷ []
+
+-- and of both lists,
+abbrev pub bothCounted : Lists → List ℕ
+bothCounted lists = length (lists .values) ∷ length (lists .objects) ∷ []
+
+-- of the writer "the byte and handle counts".
+abbrev pub sized : Written → List ℕ
+sized w = length (w .bytes) ∷ w .handles ∷ []

@@ -1,28 +1,36 @@
 -- Document 01's cases P1 to P12 as one table, and its slips as another. That they hold is computed: proofs/Cases.antt.
 use mathlib.Core.Path.{_≡_}
 use mathlib.Core.List.{List, [], _∷_, _++_, map}
-use Prim.Native.Nat.{ℕ, zero, suc, _+_, _*_}
+use Prim.Native.Nat.{ℕ, zero, suc, _+_, _-_, _*_, _/_}
 use lib.ListN.{length, set, replicate}
 use Rattle.rules.specs.Refusals.{Answer, accepted, refused, number, place}
 use Rattle.rules.specs.Bytes.{bytesOf}
 use Rattle.rules.specs.TypeTable.{TypeTable, typeTable}
-use Rattle.rules.specs.Answers.{check, Lists, read}
+use Rattle.rules.specs.Answers.{check, readObjects, Lists, read}
 
--- A message under a table and root, and what the checker answers; or what the reader hands back.
+-- A message under a table and root, and what the checker answers; or that it is accepted, so many objects in so many bytes;
+-- or what the reader hands back.
 pub data Case : Type 0 where
   checks : (t : TypeTable) (root : ℕ) (bytes : List ℕ) (handles : ℕ) → (number place : ℕ) → Case
+  accepts : (t : TypeTable) (root : ℕ) (bytes : List ℕ) (handles : ℕ) → (objects size : ℕ) → Case
   reads : (t : TypeTable) (root : ℕ) (bytes : List ℕ) (handles : ℕ) → (values objects : List ℕ) → Case
 
 pub data Outcome : Type 0 where
   answer : (number place : ℕ) → Outcome
+  holds : (objects size : ℕ) → Outcome
   lists : (values objects : List ℕ) → Outcome
 
 abbrev pub expected : Case → Outcome
 expected (checks t root bytes handles number place) = answer number place
+expected (accepts t root bytes handles objects size) = holds objects size
 expected (reads t root bytes handles values objects) = lists values objects
 
 abbrev pub checkOutcome : Answer (Unit {0}) → Outcome
 checkOutcome a = answer (number a) (place a)
+
+abbrev pub acceptOutcome : (size : ℕ) → Answer (List ℕ) → Outcome
+acceptOutcome size (accepted objects) = holds (length objects / 4) size
+acceptOutcome size (refused f) = answer (number {A = List ℕ} (refused f)) (place {A = List ℕ} (refused f))
 
 abbrev pub readOutcome : Answer Lists → Outcome
 readOutcome (accepted l) = lists (l .values) (l .objects)
@@ -31,6 +39,8 @@ readOutcome (refused f) = answer (number {A = Lists} (refused f)) (place {A = Li
 -- What the rules answer. A reader is lent just the room that the lists take.
 abbrev pub outcome : Case → Outcome
 outcome (checks t root bytes handles n p) = checkOutcome (check (record { table = t; bytes = bytes; handles = handles }) root)
+outcome (accepts t root bytes handles objects size) =
+    acceptOutcome (length bytes) (readObjects (record { table = t; bytes = bytes; handles = handles }) root (objects * 4))
 outcome (reads t root bytes handles values objects) =
     readOutcome (read (record { table = t; bytes = bytes; handles = handles }) root (length values) (length objects))
 
@@ -55,20 +65,20 @@ p1 =
     ++ ((0x02 ∷ 0x00 ∷ 0x00 ∷ 0x00 ∷ 0x00 ∷ 0x00 ∷ 0x01 ∷ 0x00 ∷ [])
     ++ (0x64 ∷ 0x00 ∷ 0xFD ∷ 0xFF ∷ 0x00 ∷ 0x00 ∷ 0x01 ∷ 0x00 ∷ [])))
 
--- "Count 0, presence all ones, 16 bytes."
+-- "Count 0, presence all ones, 16 bytes".
 abbrev pub p4 : List ℕ
 p4 = eightZeros ++ present
 
--- "Count 4, P1's envelopes, a zero one, `08 00 00 00 00 00 00 00`, eight bytes of content."
+-- "Count 4, P1's envelopes, a zero one, `08 00 00 00 00 00 00 00`, eight bytes of content".
 abbrev pub p6 : List ℕ
 p6 = set p1 0 4 ++ (eightZeros ++ ((0x08 ∷ 0 ∷ 0 ∷ 0 ∷ 0 ∷ 0 ∷ 0 ∷ 0 ∷ []) ++ (1 ∷ 2 ∷ 3 ∷ 4 ∷ 5 ∷ 6 ∷ 7 ∷ 8 ∷ [])))
 
--- "Rows `8,1,0,0` and `7,0,1,0`, member `1,0`, root 1": so many linked objects.
+-- "Rows `8,1,0,0` and `7,0,1,0`, member `1,0`, root 1": so many linked objects, a present box in each but the last.
 abbrev pub linkedTable : TypeTable
 linkedTable = typeTable (8 ∷ 1 ∷ 0 ∷ 0 ∷ 7 ∷ 0 ∷ 1 ∷ 0 ∷ []) (1 ∷ 0 ∷ [])
 
-abbrev pub linked : (links : ℕ) → List ℕ
-linked links = replicate (links * 8) 0xFF ++ eightZeros
+abbrev pub linked : (objects : ℕ) → List ℕ
+linked objects = replicate ((objects - 1) * 8) 0xFF ++ eightZeros
 
 abbrev pub cases : List Case
 cases =
@@ -79,13 +89,15 @@ cases =
     ∷ checks padTable 4 (set p1 17 1) 0 7 17
     -- P3: "P1 with count 3 and eight zero bytes added: 19 at 32."
     ∷ checks padTable 4 (set p1 0 3 ++ eightZeros) 0 19 32
-    -- P4: "value list 0; objects 1,4,0,16 and 4,4,16,0."
+    -- P4: "16 bytes: value list 0; objects 1,4,0,16 and 4,4,16,0."
     ∷ checks padTable 4 p4 0 0 0
+    ∷ accepts padTable 4 p4 0 2 16
     ∷ reads padTable 4 p4 0 (0 ∷ []) (1 ∷ 4 ∷ 0 ∷ 16 ∷ 4 ∷ 4 ∷ 16 ∷ 0 ∷ [])
     -- P5: "P4, presence 0: 10 at 0."
     ∷ checks padTable 4 (eightZeros ++ eightZeros) 0 10 0
     -- P6: "accepted, 56 bytes."
     ∷ checks padTable 4 p6 0 0 0
+    ∷ accepts padTable 4 p6 0 3 56
     -- P7: "P6, that 08 as 0C: 15 at 40."
     ∷ checks padTable 4 (set p6 40 0x0C) 0 15 40
     -- P8: "P1 plus one byte: 20 at 32."
@@ -97,8 +109,9 @@ cases =
     -- P11: "P1, byte 22 set to 0: 15 at 16."
     ∷ checks padTable 4 (set p1 22 0) 0 15 16
     -- P12: "33 linked objects in 264 bytes accepted, 34 refused 5 at 256."
-    ∷ checks linkedTable 1 (linked 32) 0 0 0
-    ∷ checks linkedTable 1 (linked 33) 0 5 256
+    ∷ checks linkedTable 1 (linked 33) 0 0 0
+    ∷ accepts linkedTable 1 (linked 33) 0 33 264
+    ∷ checks linkedTable 1 (linked 34) 0 5 256
     ∷ []
 
 -- The one claim.

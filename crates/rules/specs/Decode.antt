@@ -43,7 +43,7 @@ abbrev pub andThen : Decoded → (ℕ → ℕ → Decoded) → Decoded
 andThen (went next used values trace) k = after values trace (k next used)
 andThen (stopped f values trace) k = stopped f values trace
 
--- "The first failed test decides": a test before a part,
+-- "In the walk the first failed test decides": a test before a part,
 abbrev pub require : Bool → Fault → Decoded → Decoded
 require true f result = result
 require false f result = stopped f [] []

@@ -9,15 +9,15 @@ use lib.ListN.{length}
 use Rattle.rules.specs.Refusals.{accepted}
 use Rattle.rules.specs.Bytes.{Octets}
 use Rattle.rules.specs.TypeTable.{TypeTable}
-use Rattle.rules.specs.Trace.{Event, objectList, presentHandles, unknownHandles, unknownOutOfLine, Tiles, unknownLengths}
+use Rattle.rules.specs.Trace.{Event, objectList, presentHandles, unknownHandles, unknownOutOfLine, Tiles, FillsAreZero, unknownLengths, PresentHandlesAreOnes}
 use Rattle.rules.specs.Decode.{Message, traceOf}
-use Rattle.rules.specs.Answers.{walk, check, readValues, readObjects, write}
+use Rattle.rules.specs.Answers.{walk, check, readValues, readObjects, read, write}
 
 module _ (t : TypeTable) (root : ℕ) where
   abbrev pub message : (bytes : List ℕ) (handles : ℕ) → Message
   message bytes handles = record { table = t; bytes = bytes; handles = handles }
 
-  -- "A message with its handle count is accepted when every test of the checker before, in and after the walk passes."
+  -- "a message with its handle count is accepted when every test of the checker before, in and after the walk passes"
   abbrev pub Accepted : (bytes : List ℕ) (handles : ℕ) → Type 0
   Accepted bytes handles = check (message bytes handles) root ≡ accepted tt
 
@@ -29,6 +29,12 @@ module _ (t : TypeTable) (root : ℕ) where
   abbrev pub HasObjects : (bytes : List ℕ) (handles : ℕ) (objects : List ℕ) → Type 0
   HasObjects bytes handles objects = (room : ℕ) → length objects ≤ room → readObjects (message bytes handles) root room ≡ accepted objects
 
+  -- Where both lists are lent, both are handed back.
+  abbrev pub HasBoth : (bytes : List ℕ) (handles : ℕ) (values objects : List ℕ) → Type 0
+  HasBoth bytes handles values objects =
+      (values-room objects-room : ℕ) → length values ≤ values-room → length objects ≤ objects-room
+      → read (message bytes handles) root values-room objects-room ≡ accepted (record { values = values; objects = objects })
+
   -- A value list is written to a message with its handle count, given room.
   abbrev pub IsWrittenTo : (values bytes : List ℕ) (handles : ℕ) → Type 0
   IsWrittenTo values bytes handles = (room : ℕ) → length bytes ≤ room → write t root values room ≡ accepted (record { bytes = bytes; handles = handles })
@@ -37,7 +43,8 @@ module _ (t : TypeTable) (root : ℕ) where
   -- value of that root within the limits; reading gives that value, writing a value gives its message."
   pub record Demand2 : Type 0 where
     pub acceptedExactlyWhenEncoded : (bytes : List ℕ) (handles : ℕ) → Octets bytes → Accepted bytes handles ↔ ((values : List ℕ) × IsWrittenTo values bytes handles)
-    pub readingGivesTheValue : (bytes : List ℕ) (handles : ℕ) (values : List ℕ) → IsWrittenTo values bytes handles → HasValue bytes handles values
+    pub readingGivesTheValue : (bytes : List ℕ) (handles : ℕ) (values : List ℕ) → IsWrittenTo values bytes handles
+        → HasValue bytes handles values × ((objects : List ℕ) × HasBoth bytes handles values objects)
     pub writingGivesTheMessage : (bytes : List ℕ) (handles : ℕ) (values : List ℕ) → Octets bytes → HasValue bytes handles values → IsWrittenTo values bytes handles
 
   -- What an accepted message with its handle count says of itself. `trace` is what its walk met.
@@ -48,17 +55,21 @@ module _ (t : TypeTable) (root : ℕ) where
     pub traceIsTheWalks : trace ≡ traceOf (walk (message bytes handles) root)
     pub hasValue : HasValue bytes handles values
     pub hasObjects : HasObjects bytes handles objects
-    -- "Writing what was read gives back the same bytes and handle count."
+    pub hasBoth : HasBoth bytes handles values objects
+    -- "writing what was read gives back the same bytes and handle count"
     pub roundTrip : IsWrittenTo values bytes handles
-    -- "One object for each claim of the walk, unknown out-of-line content included, and no other."
+    -- "Its object list has one object for each claim of the walk, unknown out-of-line content included, and no other"
     pub objectsAreClaims : objects ≡ objectList trace
     pub unknownContentIsAnObject : unknownLengths objects ≡ unknownOutOfLine trace
-    -- "The object list tiles the message."
+    -- The object list "takes every byte once": as object, or as zero fill after one.
     pub objectsTile : Tiles 0 (length bytes) objects
-    -- "The handle count is the present handles plus the handle numbers of unknown content."
+    pub fillsAreZero : FillsAreZero bytes objects
+    -- "the handle count is the present handles plus the handle numbers of unknown content"
     pub handlesAddUp : handles ≡ presentHandles trace + unknownHandles trace
+    -- "A present handle is a handle's word of all ones met in the walk"
+    pub presentHandlesAreOnes : PresentHandlesAreOnes bytes trace
 
-  -- Demand 3: "Two accepted messages hold equal values exactly when bytes and handle counts are equal", and the above.
+  -- Demand 3: "two accepted messages hold equal values exactly when bytes and handle counts are equal", and the above.
   pub record Demand3 : Type 0 where
     pub equalValuesExactlyWhenEqual : (bytes bytes₂ : List ℕ) (handles handles₂ : ℕ) (values values₂ : List ℕ) → Octets bytes → Octets bytes₂
         → HasValue bytes handles values → HasValue bytes₂ handles₂ values₂ → (values ≡ values₂) ↔ ((bytes ≡ bytes₂) × (handles ≡ handles₂))

@@ -53,7 +53,7 @@ elements parts index (suc count) = sequence (parts index) (elements parts (suc i
 
 -- ---- numbers of the list
 
--- The next number, judged (26 at its index), and what is made of it. "A list that ends early is 26 at its length."
+-- The next number, judged (26 at its index), and what is made of it. "A list that ends early is 26 at its length".
 unfoldable pub numberThen : (ℕ → Bool) → (ℕ → Encoder) → Encoder
 numberThen holds continue [] next used = cannot notAValue 0
 numberThen holds continue (v ∷ values) next used =

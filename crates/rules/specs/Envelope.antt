@@ -25,7 +25,7 @@ unfoldable pub encodeWord : (width : ℕ) → E.Encoder
 encodeWord width = E.recordThen (writeNumber width anyPattern) (λ v. E.nothing)
 
 -- ---- eight bytes
--- "Bytes 6 and 7 are flags (bit 0: payload in line; any other bit set is 15), bytes 4 and 5 the handle number, bytes 0 to 3
+-- "bytes 6 and 7 are flags (bit 0: payload in line; any other bit set is 15), bytes 4 and 5 the handle number, bytes 0 to 3
 -- the payload or its byte number."
 
 abbrev pub inLine : ℕ
@@ -55,7 +55,7 @@ module _ (m : D.Message) where
   abbrev pub requireNumber : (ℕ → ℕ → Bool) → (at : ℕ) → D.Decoded → D.Decoded
   requireNumber holds at result = D.requireAfter (λ next used values. holds next used) (fault envelopeNumberWrong (Byte at)) result
 
-  -- "The byte number covering everything claimed from its payload on, fill included."
+  -- 16: "the byte number covering everything claimed from its payload on, fill included".
   unfoldable pub byteNumbered : D.Decoder → D.Decoder
   byteNumbered payload at next used = requireNumber (λ n u. eqb (lowWord at) (n - next)) at (payload at next used)
 
@@ -66,15 +66,15 @@ module _ (m : D.Message) where
       requireForm (eqb (flags at) form) at numbered
 
   -- "A payload of size up to 4 must be in line, a larger one out of line. Known member: 15, 5; in line: value, fill up to
-  -- four, 16; out of line: claim, value, then 16."
+  -- four, 16; out of line: claim, value, then 16".
   abbrev pub knownAs : (small : Bool) → D.Deeper → (row : ℕ) → D.Decoder
   knownAs true below row =
       flagged inLine (D.sequence (sizeOf (m .table) row) (D.here (λ at. D.oneDeeper below at (λ rows b. rows row))) (D.fill m (4 - sizeOf (m .table) row)))
   knownAs false below row =
       flagged outOfLine (byteNumbered (D.here (λ at. D.oneDeeper below at (λ rows b. D.claim m payloadObject row (sizeOf (m .table) row) (rows row)))))
 
-  -- "Unknown ordinal: 15, also when out of line with a byte number that isn't a positive multiple of 8; 5; out of line 6;
-  -- 14. The content is taken raw." `row` is the table's or union's.
+  -- "Unknown ordinal, in a table or flexible union: 15, also when out of line with a byte number that isn't a positive multiple of 8;
+  -- 5; out of line 6; 14. The content is taken raw." `row` is the table's or union's.
   abbrev pub unknownInLine : D.Deeper → (at : ℕ) → D.Decoder
   unknownInLine below at =
       D.oneDeeper below at (λ rows b. D.emit (0 ∷ handleNumber at ∷ lowWord at ∷ []) (D.takeHandles m at (unknownContent 0 (handleNumber at))))

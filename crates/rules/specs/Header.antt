@@ -29,7 +29,8 @@ requireOrdinal h answer =
     require (not (eqb (h .ordinal) 0)) (fault ordinalZero (Byte 8))
     (require (not (isEpitaph h) || eqb (h .transaction) 0) (fault epitaphTransaction (Byte 0)) answer)
 
--- "Tests: 3 over the whole; 6 at 0 if under 16 bytes; 23 magic, place 7; 24; 25; 20 at 16 if an epitaph has more bytes."
+-- "Tests: 3 over the whole; 6 at 0 if under 16 bytes; 23 magic, place 7; 24 ordinal 0, place 8; 25 ordinal all ones (epitaph) with
+-- transaction not 0, place 0; 20 at 16 if an epitaph has more bytes."
 unfoldable pub readHeader : (message : List ℕ) → Answer Header
 readHeader message =
     requireLength (length message)
@@ -52,3 +53,7 @@ headerBytes h = bytesOf 4 (h .transaction) ++ (h .flags ++ (1 ∷ bytesOf 8 (h .
 -- "The header writer gives 24, 25 and 22." It writes 16 bytes.
 unfoldable pub writeHeader : Header → (room : ℕ) → Answer (List ℕ)
 writeHeader h room = requireOrdinal h (requireRoom 16 room (accepted (headerBytes h)))
+
+-- The values that the reader answers: a header's fields in order.
+abbrev pub fields : Header → List ℕ
+fields h = h .transaction ∷ (h .flags ++ (h .ordinal ∷ []))

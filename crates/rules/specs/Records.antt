@@ -77,7 +77,8 @@ writePresence width ones optional (suc (suc v)) = unfit
 
 -- ---- counts with presences
 
--- "Vector and string: 8-byte count, 8-byte presence. Tests 9; absent: 10, 11; present: 12." The value is 0, or count plus 1.
+-- "Vector and string: 8-byte count, 8-byte presence (0 or all ones). Tests 9; absent: 10, 11; present: 12". The value is 0, or count
+-- plus 1.
 abbrev pub countRecord : (optional : Bool) (largest at count : ℕ) → Presence → ReadRecord
 countRecord optional largest at count absent =
     readIf (unless requiredAbsent optional) at (readIf (unless absentNotZero (eqb count 0)) at (got 0))
@@ -96,7 +97,7 @@ writeCount optional largest zero = if optional then put (countBytes 0 0) else un
 writeCount optional largest (suc count) =
     if ltb count (256 ^ 8) then (if leb count largest then put (countBytes count ones64) else unfit) else unfit
 
--- "Table: 8-byte count, 8-byte presence, always present. Tests 9, 10." The value is the count.
+-- "Table: 8-byte count, 8-byte presence, always present. Tests 9, 10". The value is the count.
 abbrev pub tableRecord : (at count : ℕ) → Presence → ReadRecord
 tableRecord at count absent = wrong (fault requiredAbsent (Byte at))
 tableRecord at count present = got count

@@ -136,7 +136,7 @@ pub data Answer (A : Type 0) : Type 0 where
   accepted : A → Answer A
   refused : Fault → Answer A
 
--- "An accepted answer is 0, place 0. A refusal gives number and place."
+-- "An accepted answer is 0, place 0. A refusal gives number and place".
 abbrev pub number : {A : Type 0} → Answer A → ℕ
 number (accepted a) = 0
 number (refused f) = f .number

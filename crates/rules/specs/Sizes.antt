@@ -12,7 +12,7 @@ layout size alignment = record { size = size; alignment = alignment }
 -- ---- structs
 -- A struct's layout is made of those of its members' rows, `inner`.
 
--- "Alignment is the largest of its members'."
+-- A struct's: "alignment is the largest of its members'".
 unfoldable pub largestAlignment : (inner : ℕ → Layout) → List ℕ → ℕ
 largestAlignment inner [] = 1
 largestAlignment inner (row ∷ rows) = max (inner row .alignment) (largestAlignment inner rows)
@@ -26,7 +26,7 @@ abbrev pub nextAlignment : (inner : ℕ → Layout) → (whole : ℕ) → List �
 nextAlignment inner whole [] = whole
 nextAlignment inner whole (row ∷ rows) = inner row .alignment
 
--- "Each member at the next multiple of its alignment": the members from an offset on.
+-- "each member at the next multiple of its alignment": the members from an offset on.
 unfoldable pub fieldsFrom : (inner : ℕ → Layout) → (whole offset : ℕ) → List ℕ → List Field
 unfolding roundUp
 fieldsFrom inner whole offset [] = []

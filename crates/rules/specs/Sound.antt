@@ -9,29 +9,29 @@ use Rattle.rules.specs.Refusals.{tableNotSound, rootNotAllowed, fault, A
 use Rattle.rules.specs.TypeTable.{TypeTable, rowCount, memberCount, kindAt, aAt, bAt, cAt, ordinalAt, rowOf, FidlType, bool, number, handle, array, vector, string, struct, box, table, union, none, typeOf}
 use Rattle.rules.specs.Sizes.{sizeOf}
 
--- "Lists whole": 1 to 256 rows of four numbers, 0 to 1,024 members of two.
+-- "lists whole": 1 to 256 rows of four numbers, 0 to 1,024 members of two.
 abbrev pub listsWhole : TypeTable → Bool
 listsWhole t =
     eqb (length (t .rows) % 4) 0 && leb 4 (length (t .rows)) && leb (length (t .rows)) 1024
     && eqb (length (t .members) % 2) 0 && leb (length (t .members)) 2048
 
--- "Struct ordinals are 1, 2, 3 and on", and its members' rows have smaller numbers than its own.
+-- "struct ordinals are 1, 2, 3 and on", and its members' rows have smaller numbers than its own.
 unfoldable pub structMembers : TypeTable → (row first count ordinal : ℕ) → Bool
 structMembers t row first zero ordinal = true
 structMembers t row first (suc count) ordinal =
     (eqb (ordinalAt t first) ordinal && ltb (rowOf t first) row) && structMembers t row (suc first) count (suc ordinal)
 
--- "Table and union ordinals start at 1 or more and rise strictly", and their members' rows exist.
+-- "table and union ordinals start at 1 or more and rise strictly", and their members' rows exist.
 unfoldable pub risingMembers : TypeTable → (first count before : ℕ) → Bool
 risingMembers t first zero before = true
 risingMembers t first (suc count) before =
     (ltb before (ordinalAt t first) && ltb (rowOf t first) (rowCount t)) && risingMembers t (suc first) count (ordinalAt t first)
 
--- "First member plus members is at most the member count, also for none."
+-- "first member plus members is at most the member count, also for none"
 abbrev pub membersExist : TypeTable → (first count : ℕ) → Bool
 membersExist t first count = leb (first + count) (memberCount t)
 
--- "Every row as above": the line of the table of kinds that a row has, with the cells that must be 0.
+-- "every row as above": the line of the table of kinds that a row has, with the cells that must be 0.
 unfoldable pub rowFits : TypeTable → ℕ → FidlType → Bool
 rowFits t row bool = eqb (aAt t row) 0 && eqb (bAt t row) 0 && eqb (cAt t row) 0
 rowFits t row (number width) =

@@ -31,24 +31,42 @@ rowCount t = length (t .rows) / 4
 abbrev pub memberCount : TypeTable → ℕ
 memberCount t = length (t .members) / 2
 
--- The four numbers of a row; past the end of the list stands 0.
+-- The four numbers of a row and the two of a member, by the list that they stand in; past its end stands 0.
+abbrev pub kindIn : (rows : List ℕ) (row : ℕ) → ℕ
+kindIn rows row = getD rows (row * 4) 0
+
+abbrev pub aIn : (rows : List ℕ) (row : ℕ) → ℕ
+aIn rows row = getD rows (row * 4 + 1) 0
+
+abbrev pub bIn : (rows : List ℕ) (row : ℕ) → ℕ
+bIn rows row = getD rows (row * 4 + 2) 0
+
+abbrev pub cIn : (rows : List ℕ) (row : ℕ) → ℕ
+cIn rows row = getD rows (row * 4 + 3) 0
+
+abbrev pub ordinalIn : (members : List ℕ) (member : ℕ) → ℕ
+ordinalIn members member = getD members (member * 2) 0
+
+abbrev pub rowIn : (members : List ℕ) (member : ℕ) → ℕ
+rowIn members member = getD members (member * 2 + 1) 0
+
 abbrev pub kindAt : TypeTable → ℕ → ℕ
-kindAt t row = getD (t .rows) (row * 4) 0
+kindAt t row = kindIn (t .rows) row
 
 abbrev pub aAt : TypeTable → ℕ → ℕ
-aAt t row = getD (t .rows) (row * 4 + 1) 0
+aAt t row = aIn (t .rows) row
 
 abbrev pub bAt : TypeTable → ℕ → ℕ
-bAt t row = getD (t .rows) (row * 4 + 2) 0
+bAt t row = bIn (t .rows) row
 
 abbrev pub cAt : TypeTable → ℕ → ℕ
-cAt t row = getD (t .rows) (row * 4 + 3) 0
+cAt t row = cIn (t .rows) row
 
 abbrev pub ordinalAt : TypeTable → ℕ → ℕ
-ordinalAt t member = getD (t .members) (member * 2) 0
+ordinalAt t member = ordinalIn (t .members) member
 
 abbrev pub rowOf : TypeTable → ℕ → ℕ
-rowOf t member = getD (t .members) (member * 2 + 1) 0
+rowOf t member = rowIn (t .members) member
 
 -- What a row says, kind by kind; `first` and `count` name members.
 pub data FidlType : Type 0 where

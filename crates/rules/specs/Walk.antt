@@ -32,29 +32,29 @@ module _ (m : Message) where
 
   abbrev pub afterHandle : (at value : ℕ) → Decoder
   afterHandle at zero = nothing
-  afterHandle at (suc v) = takeHandles m at presentHandle
+  afterHandle at (suc v) = takeHandles m at (presentHandle at)
 
-  -- "Present: 5, claim, then elements."
+  -- "present: 12, 5, claim, then elements": from 5 on.
   abbrev pub afterVector : Deeper → (row element at value : ℕ) → Decoder
   afterVector below row element at zero = nothing
   afterVector below row element at (suc count) =
       oneDeeper below at (λ rows b.
       claim m vectorObject row (count * sizeOf (m .table) element) (elements (sizeOf (m .table) element) (λ i. rows element) 0 count))
 
-  -- "Or 13 for a string."
+  -- "or 13 for a string"
   abbrev pub afterString : Deeper → (row at value : ℕ) → Decoder
   afterString below row at zero = nothing
   afterString below row at (suc count) =
       oneDeeper below at (λ rows b.
       claim m vectorObject row (count * 1) (checked isUtf8 (fault textNotUtf8 (Byte at)) (elements 1 (λ i. decodeWord m 1) 0 count)))
 
-  -- "Box: 5, claim."
+  -- "Box: 8-byte presence. Tests 9, 5, claim": from 5 on.
   abbrev pub afterBox : Deeper → (element at value : ℕ) → Decoder
   afterBox below element at zero = nothing
   afterBox below element at (suc v) =
       oneDeeper below at (λ rows b. claim m boxedObject element (sizeOf (m .table) element) (rows element))
 
-  -- "Table: 5, claim of count envelopes, 19, then envelopes 1 to count."
+  -- "Tests 9, 10, 5, claim of count envelopes, 19, then envelopes 1 to count": from 5 on.
   abbrev pub afterTable : Deeper → (row : ℕ) → (ℕ → Content) → (at value : ℕ) → Decoder
   afterTable below row content at count =
       let size = envelopeSize (m .table .edition) in
@@ -63,7 +63,7 @@ module _ (m : Message) where
       (lastPresent m size count
       (elements size (λ ordinal. optionalEnvelope m size (eqb ordinal count) (decodeContent (m .table .edition) m b row (content ordinal))) 1 count)))
 
-  -- "Union: ordinal 0: 11 if the envelope isn't all zero. Else 18, envelope."
+  -- "Ordinal 0: 10 if required, 11 if the envelope isn't all zero. Else 17, 18, envelope": after 10 and 17.
   abbrev pub afterUnion : Deeper → (row : ℕ) → (ℕ → Content) → (at value : ℕ) → Decoder
   afterUnion below row content at zero = zeroEnvelope m (envelopeSize (m .table .edition)) at
   afterUnion below row content at (suc v) =
@@ -98,7 +98,7 @@ module _ (m : Message) where
   unfoldable pub decodeRow : Deeper → ℕ → Decoder
   decodeRow deep row = decodeStep deep (decodeBelow deep row) row
 
-  -- "Until the depth of 32 is spent": so many levels.
+  -- "until the depth of 32 is spent": so many levels.
   unfoldable pub levels : ℕ → Deeper
   levels zero = spent
   levels (suc depth) = deeper (decodeRow (levels depth)) (levels depth)

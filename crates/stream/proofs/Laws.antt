@@ -1,23 +1,20 @@
 -- Laws of the number stream, for the code that goes over it by places.
 -- Assumes nothing.
 use mathlib.Core.Path.{_≡_, refl, sym, _∙_, ap}
-use mathlib.Core.Bool.{Bool, true, false, _&&_, and-false, false≢true}
+use mathlib.Core.Bool.{Bool, true, false, _&&_, and-false}
 use mathlib.Core.List.{List, [], _∷_}
-use Prim.Native.Nat.{ℕ, suc, _+_, _-_, _≤_, _<_, _%_, min}
+use Prim.Native.Nat.{ℕ, suc, _+_, _*_, _≤_, _<_, _%_, min}
 use native.Mathlib.Numerals.{add-one}
 use native.Mathlib.Omega.{arith}
-use borrow.Author.Tests.{leb-true, eq-eqb, ne-eqb}
+use borrow.Author.Tests.{leb-true, le-leb, lt-leb, eq-eqb, ne-eqb}
 use lib.Dec.{leb, eqb}
 use lib.ListN.{length, drop, getD, set, length-set, length-drop, drop-of-length-le}
 use lib.Seq.{sets, drop-cons, set-out, length-take-le}
 use Rattle.rules.specs.Refusals.{if_then_else_}
-use Rattle.stream.specs.Numbers.{isDigit, withDigit, numbersOf, lineLength, LineRead, narrowed, Narrows, sameNumbers}
+use Rattle.rules.proofs.Tests.{both}
+use Rattle.stream.specs.Numbers.{isDigit, withDigit, numbersOf, lineLength, LineRead, listAt, startAt, narrowed, Narrows, TablePut, sameNumbers}
 
 -- ---- a line
-
-both : (a b : Bool) → a && b ≡ true → (a ≡ true) × (b ≡ true)
-both true b p = (refl, p)
-both false b p = absurd (false≢true p)
 
 pub digit-bounds : (byte : ℕ) → isDigit byte ≡ true → (48 ≤ byte) × (byte ≤ 57)
 digit-bounds byte digit =
@@ -115,11 +112,19 @@ line-within [] = omega arith
 line-within (byte ∷ bytes) = feed-or-more (eqb byte 10) (lineLength bytes) (length bytes) (line-within bytes)
 
 -- The next line lies further on, and within the text.
-pub line-length :
+line-length :
     (text : List ℕ) (at : ℕ) → at < length text →
     (0 < lineLength (drop at text)) × (at + lineLength (drop at text) ≤ length text)
 line-length text at inside =
     omega (arith, length-at text at 0 inside, line-within (drop at text), length-drop at text)
+
+-- The next line lies further on, and within the text.
+pub line-moved :
+    (text : List ℕ) (at : ℕ) {lent after : List ℕ} {count next : ℕ} → at < length text →
+    LineRead (drop at text) at lent count next after → (at < next) × (next ≤ length text)
+line-moved text at inside read =
+    let further = line-length text at inside in
+    (omega (arith, read .passed, further .0), omega (arith, read .passed, further .1))
 
 -- ---- lists of numbers
 
@@ -185,3 +190,29 @@ module _ {limit : ℕ} {numbers lent stores : List ℕ} {at : ℕ} (stored : Sto
   all-stored ended =
       narrows (omega (arith, stored .inside, stored .within, stored .room))
       (rw (drop-of-length-le numbers ended) at (stored .put))
+
+-- ---- parts that are handed back
+
+-- Where a part starts, by its own place,
+pub start-inside : (numbers : List ℕ) (at : ℕ) (start : ℕ × ℕ) → at ≤ length numbers → (start .0, at * 8 + start .1) ≡ startAt numbers at start
+start-inside numbers at start inside = simp (le-leb at (length numbers) inside)
+
+-- and past the end.
+pub start-past : (numbers : List ℕ) (at : ℕ) (start : ℕ × ℕ) → length numbers < at → start ≡ startAt numbers at start
+start-past numbers at start past = simp (lt-leb at (length numbers) past)
+
+-- ---- a type table
+
+pub table-put :
+    (numbers : List ℕ) {row-list member-list rows members rows′ members′ : List ℕ} {row-count member-count next : ℕ} →
+    row-list ≡ listAt numbers 0 → member-list ≡ listAt numbers (1 + length row-list) →
+    Narrows 4294967296 row-list rows row-count rows′ → Narrows 4294967296 member-list members member-count members′ →
+    next ≡ 1 + length row-list + 1 + length member-list → next < 4611686018427387904 →
+    TablePut numbers rows members row-count member-count next rows′ members′
+table-put numbers row-list-is member-list-is rows-put members-put passed near =
+    record {
+      rows-put = rw row-list-is at rows-put;
+      members-put = rw (member-list-is, row-list-is) at members-put;
+      passed = rw (member-list-is, row-list-is) at passed;
+      near = near;
+    }

@@ -3,9 +3,9 @@
 use mathlib.Core.Path.{_≡_}
 use mathlib.Core.Bool.{Bool, true, false, _&&_}
 use mathlib.Core.List.{List, [], _∷_}
-use Prim.Native.Nat.{ℕ, suc, _+_, _-_, _*_, _%_, _≤_, min}
+use Prim.Native.Nat.{ℕ, suc, _+_, _-_, _*_, _%_, _≤_, _<_, min}
 use lib.Dec.{leb, eqb}
-use lib.ListN.{length, take}
+use lib.ListN.{length, take, drop, getD}
 use lib.Seq.{sets}
 use Rattle.rules.specs.Refusals.{if_then_else_}
 use Rattle.rules.specs.Bytes.{ones64}
@@ -35,6 +35,15 @@ pub record LineRead (bytes : List ℕ) (from : ℕ) (lent : List ℕ) (count nex
   pub passed : next ≡ from + lineLength bytes
   pub put : after ≡ sets lent 0 (numbersOf bytes 0)
 
+-- The list whose length stands at a place of a case.
+abbrev pub listAt : (numbers : List ℕ) (at : ℕ) → List ℕ
+listAt numbers at = take (getD numbers at 0) (drop (at + 1) numbers)
+
+-- Where the part of a list from a place on starts, by block and offset, if it is handed back: in the list itself, 8 bytes a
+-- number; past its end, at its empty start.
+abbrev pub startAt : (numbers : List ℕ) (at : ℕ) → (start : ℕ × ℕ) → ℕ × ℕ
+startAt numbers at start = if leb at (length numbers) then (start .0, at * 8 + start .1) else start
+
 -- The remainders of numbers, as a narrower type holds them.
 unfoldable pub narrowed : (limit : ℕ) → List ℕ → List ℕ
 narrowed limit [] = []
@@ -46,6 +55,18 @@ pub record Narrows (limit : ℕ) (numbers lent : List ℕ) (count : ℕ) (after 
   pub long : count ≡ length (take count after)
   pub counted : count ≡ min (length numbers) (length lent)
   pub put : after ≡ sets lent 0 (narrowed limit numbers)
+
+-- Where the second of two lists stands.
+abbrev pub secondPlace : List ℕ → ℕ
+secondPlace numbers = 1 + length (listAt numbers 0)
+
+-- Putting a type table: the row list that stands first and the member list after it are stored in lists of words that were
+-- lent; the numbers after both start at a place so near that it can be counted on from there.
+pub record TablePut (numbers rows members : List ℕ) (row-count member-count next : ℕ) (rows′ members′ : List ℕ) : Type 0 where
+  pub rows-put : Narrows 4294967296 (listAt numbers 0) rows row-count rows′
+  pub members-put : Narrows 4294967296 (listAt numbers (secondPlace numbers)) members member-count members′
+  pub passed : next ≡ secondPlace numbers + 1 + length (listAt numbers (secondPlace numbers))
+  pub near : next < 4611686018427387904
 
 -- Are two lists of numbers equal?
 unfoldable pub sameNumbers : List ℕ → List ℕ → Bool

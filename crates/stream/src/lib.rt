@@ -2,8 +2,28 @@
 // the line too. In a case a list stands as its length and then its numbers.
 ghost use mathlib.Core.Path.{_≡_};
 ghost use Prim.Native.Nat.{_+_, _≤_};
-ghost use lib.ListN.{take, drop, getD};
-ghost use Rattle.stream.specs.Numbers.{isDigit, withDigit, LineRead, Narrows, sameNumbers};
+ghost use denote.Ref.{ptr};
+ghost use lib.ListN.{length, take, drop, replicate};
+ghost use Rattle.stream.specs.Numbers.{isDigit, withDigit, LineRead, listAt, startAt, Narrows, TablePut, sameNumbers};
+
+// Room for a stream, and for the numbers of a line of it.
+pub const TEXT_ROOM: usize = 524288;
+
+pub const LINE_ROOM: usize = 16384;
+
+pub fn text_room() -> [u8; TEXT_ROOM]
+    ensures zeros { λ r. ⌜ r ≡ replicate 524288 0 ⌝ }
+    ensures long { λ r. ⌜ 524288 ≡ length r ⌝ }
+{
+    [0; TEXT_ROOM]
+}
+
+pub fn line_room() -> [u64; LINE_ROOM]
+    ensures zeros { λ r. ⌜ r ≡ replicate 16384 0 ⌝ }
+    ensures long { λ r. ⌜ 16384 ≡ length r ⌝ }
+{
+    [0; LINE_ROOM]
+}
 
 // How many numbers stand in a line, and where the next line starts.
 pub struct Line {
@@ -56,7 +76,8 @@ fn with_digit(value: u64, byte: u8) -> u64
 
 // The numbers from a place on,
 pub fn rest(numbers: &[u64], at: usize) -> &[u64]
-    ensures { λ r. ⌜ now r ≡ drop at (now (numbers .entry)) ⌝ }
+    ensures numbers { λ r. ⌜ now r ≡ drop at (now (numbers .entry)) ⌝ }
+    ensures start { λ r. ⌜ ptr r ≡ startAt (now (numbers .entry)) at (ptr (numbers .entry)) ⌝ }
 {
     if at <= numbers.len() {
         &numbers[at..]
@@ -67,7 +88,8 @@ pub fn rest(numbers: &[u64], at: usize) -> &[u64]
 
 // and so many from the first on.
 pub fn first(numbers: &[u64], count: usize) -> &[u64]
-    ensures { λ r. ⌜ now r ≡ take count (now (numbers .entry)) ⌝ }
+    ensures numbers { λ r. ⌜ now r ≡ take count (now (numbers .entry)) ⌝ }
+    ensures start { λ r. ⌜ ptr r ≡ ptr (numbers .entry) ⌝ }
 {
     if count <= numbers.len() {
         &numbers[..count]
@@ -78,7 +100,8 @@ pub fn first(numbers: &[u64], count: usize) -> &[u64]
 
 // The list whose length stands at a place of a case.
 pub fn list(case: &[u64], at: usize) -> &[u64]
-    ensures { λ r. ⌜ now r ≡ take (getD (now (case .entry)) at 0) (drop (at + 1) (now (case .entry))) ⌝ }
+    ensures numbers { λ r. ⌜ now r ≡ listAt (now (case .entry)) at ⌝ }
+    ensures start { λ r. ⌜ ptr r ≡ startAt (now (case .entry)) (at + 1) (ptr (case .entry)) ⌝ }
 {
     if case.len() <= at {
         return &case[..0];
@@ -114,6 +137,28 @@ pub fn to_words(numbers: &[u64], words: &mut [u32]) -> usize
         at += 1;
     }
     at
+}
+
+// How many numbers of a row list and of a member list were put into lent lists, and where the numbers after both start.
+pub struct Table {
+    pub rows: usize,
+    pub members: usize,
+    pub next: usize,
+}
+
+// Puts the row list and the member list that stand first into lent lists.
+pub fn put_table(numbers: &[u64], rows: &mut [u32], members: &mut [u32]) -> Table
+    ensures { λ r.
+        ⌜ TablePut (now (numbers .entry)) (now (rows .entry)) (now (members .entry)) (r .rows) (r .members) (r .next) (now (rows .exit)) (now (members .exit)) ⌝ }
+{
+    let row_list = list(numbers, 0);
+    let at_members = 1 + row_list.len();
+    let member_list = list(numbers, at_members);
+    Table {
+        rows: to_words(row_list, rows),
+        members: to_words(member_list, members),
+        next: at_members + 1 + member_list.len(),
+    }
 }
 
 // Are two lists of numbers equal?

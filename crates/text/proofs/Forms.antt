@@ -4,15 +4,16 @@ use mathlib.Core.Path.{_≡_, refl, sym, _∙_, ap}
 use mathlib.Core.Bool.{Bool, true, false, _&&_, not, and-false, false≢true}
 use mathlib.Core.List.{List, [], _∷_}
 use mathlib.Core.Logic.{_⊎_, inl, inr, ⊎-elim}
-use Prim.Native.Nat.{ℕ, zero, suc, _+_, _≤_, _<_}
-use native.Mathlib.Nat.{eq-or-lt-of-le}
+use Prim.Native.Nat.{ℕ, zero, suc, _-_, _≤_, _<_}
+use native.Mathlib.Nat.{add-zero, eq-or-lt-of-le}
 use native.Mathlib.Omega.{arith}
 use borrow.Author.Tests.{le-leb, lt-leb, leb-true, not-true, not-false}
 use lib.Dec.{leb}
-use lib.ListN.{length, drop, getD}
-use lib.Seq.{drop-cons, getD-drop}
+use lib.ListN.{length, take, drop, getD, length-drop}
+use lib.Seq.{getD-drop, take-all}
 use Rattle.rules.specs.Refusals.{if_then_else_}
 use Rattle.rules.specs.Text.{Range, range, tail, holds, Form, form, forms, Led, led, notALead, leads}
+use Rattle.rules.proofs.Tests.{both}
 use Rattle.text.specs.Sequences.{Tail, lieIn, sequenceLed, sequenceOf}
 
 -- ---- lead bytes: the forms rise, so the bounds of a byte say which one leads
@@ -78,10 +79,6 @@ abbrev tailDue : (place : ℕ) (due : List Range) → Type 0
 tailDue place [] = ⊥
 tailDue zero (range low high ∷ due) = (0x80 ≤ low) × (high ≤ 0xBF)
 tailDue (suc place) (r ∷ due) = tailDue place due
-
-pub both : (a b : Bool) → a && b ≡ true → (a ≡ true) × (b ≡ true)
-both true b is = (refl, is)
-both false b is = absurd (false≢true is)
 
 within : (n low high : ℕ) → holds (range low high) n ≡ true → (low ≤ n) × (n ≤ high)
 within n low high is =
@@ -204,17 +201,28 @@ first-four : (lead : ℕ) (text : List ℕ) → sequenceOf (lead ∷ firsts 3 0 
 unfolding sequenceOf
 first-four lead text = led-first lead text forms (omega arith)
 
-pub by-four :
-    (text : List ℕ) (at : ℕ) {lead second third fourth r : ℕ} → at < length text → lead ≡ getD text at 0 →
-    second ≡ getD text (at + 1) 0 → third ≡ getD text (at + 2) 0 → fourth ≡ getD text (at + 3) 0 →
+by-four :
+    (text : List ℕ) {lead second third fourth r : ℕ} → 0 < length text → lead ≡ getD text 0 0 → second ≡ getD text 1 0 →
+    third ≡ getD text 2 0 → fourth ≡ getD text 3 0 → r ≡ sequenceOf (lead ∷ second ∷ third ∷ fourth ∷ []) →
+    r ≡ sequenceOf text
+by-four [] some is-lead is-second is-third is-fourth is = absurd (omega arith)
+by-four (n ∷ after) some is-lead is-second is-third is-fourth is =
+    is ∙ rw (is-lead, is-second, is-third, is-fourth) (first-four n after)
+
+-- What is left of a text from a place on, as it is lent.
+abbrev rest : (text : List ℕ) (at : ℕ) → List ℕ
+rest text at = take (length text - at) (drop at text)
+
+rest-all : (text : List ℕ) (at : ℕ) → rest text at ≡ drop at text
+rest-all text at = take-all (length text - at) (drop at text) (omega (arith, length-drop at text))
+
+pub rest-lead : (text : List ℕ) (at : ℕ) → 0x80 ≤ getD text at 0 → 0x80 ≤ getD (rest text at) 0 0
+rest-lead text at high = rw (rest-all text at, getD-drop at text 0 0, add-zero at) high
+
+pub rest-by-four :
+    (text : List ℕ) (at : ℕ) {lead second third fourth r : ℕ} → at < length text → lead ≡ getD (rest text at) 0 0 →
+    second ≡ getD (rest text at) 1 0 → third ≡ getD (rest text at) 2 0 → fourth ≡ getD (rest text at) 3 0 →
     r ≡ sequenceOf (lead ∷ second ∷ third ∷ fourth ∷ []) → r ≡ sequenceOf (drop at text)
-by-four text at {lead} {second} {third} {fourth} {r} inside is-lead is-second is-third is-fourth is =
-    let after = drop (suc at) text in
-    let second-there = after-lead 0 1 (omega arith) in
-    let third-there = after-lead 1 2 (omega arith) in
-    let fourth-there = after-lead 2 3 (omega arith) in
-    let same : lead ∷ second ∷ third ∷ fourth ∷ [] ≡ getD text at 0 ∷ firsts 3 0 after = cc in
-    is ∙ ap sequenceOf same ∙ first-four (getD text at 0) after ∙ sym (ap sequenceOf (drop-cons text at 0 inside))
-  where
-    after-lead : (k ahead : ℕ) → suc at + k ≡ at + ahead → getD (drop (suc at) text) k 0 ≡ getD text (at + ahead) 0
-    after-lead k ahead sum = getD-drop (suc at) text k 0 ∙ ap (λ (i : ℕ). getD text i 0) sum
+rest-by-four text at inside is-lead is-second is-third is-fourth is =
+    let all = rest-all text at in
+    by-four (rest text at) (omega (arith, ap length all, length-drop at text)) is-lead is-second is-third is-fourth is ∙ ap sequenceOf all

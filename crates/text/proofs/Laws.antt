@@ -3,18 +3,19 @@
 use mathlib.Core.Path.{_≡_, refl, sym, _∙_, ap}
 use mathlib.Core.Bool.{Bool, true, false, _&&_, and-assoc, false≢true}
 use mathlib.Core.List.{List, [], _∷_}
-use Prim.Native.Nat.{ℕ, suc, _+_, _-_, _≤_, _<_}
+use Prim.Native.Nat.{ℕ, zero, suc, _+_, _-_, _≤_, _<_}
+use native.Mathlib.Nat.{add-zero}
 use native.Mathlib.Numerals.{add-one}
 use native.Mathlib.Omega.{arith}
-use borrow.Author.Tests.{ltb-true}
-use lib.Bits.{bitOr, bitAnd, or-add-and, and-le-l, and-le-r}
-use lib.Dec.{ltb}
-use lib.ListN.{length, drop, getD, length-drop, drop-of-length-le}
+use lib.ListN.{length, take, drop, getD, length-drop, drop-of-length-le}
 use lib.Seq.{drop-cons, drop-drop}
 use Rattle.rules.specs.Refusals.{if_then_else_}
 use Rattle.rules.specs.Text.{Range, holds, forms, Led, led, notALead, leads, follows, isUtf8}
+use Rattle.words.specs.Bits.{allBits}
+use Rattle.words.proofs.Bits.{part-none-above}
+use Rattle.rules.proofs.Tests.{both}
 use Rattle.text.specs.Sequences.{lieIn, sequenceLed, sequenceOf, Passes}
-use Rattle.text.proofs.Forms.{leads-form, both}
+use Rattle.text.proofs.Forms.{leads-form}
 
 -- ---- a text goes on after the sequence at a place, or is none
 
@@ -104,28 +105,22 @@ byte-passed {text} {from} {at} p inside ascii =
       alike = p .alike ∙ next-lead text at inside ∙ ap (follows (drop (at + 1) text)) alone;
     }
 
--- One more byte is joined to a test of those before it.
-pub ascii-joined :
-    {text : List ℕ} {from at : ℕ} (ascii : Bool) → (ascii ≡ true → Passes text from at) → at < length text →
-    ascii && ltb (getD text at 0) 0x80 ≡ true → Passes text from (at + 1)
-ascii-joined true passed inside test = byte-passed (passed refl) inside (ltb-true _ _ test)
-ascii-joined false passed inside test = absurd (false≢true test)
+-- Numbers of a part are ASCII where all their bits are.
+module _
+    {text : List ℕ} {from at end bits : ℕ} (p : Passes text from at) (inside : end ≤ length text)
+    (is : bits ≡ allBits (take (end - at) (drop at text))) (ascii : bits < 0x80)
+  where
+    first-passed : (count : ℕ) → at + count ≤ end → Passes text from (at + count)
+    first-passed zero within = rw (add-zero at) p
+    first-passed (suc count) within =
+        let number = part-none-above text at end count (omega arith) inside in
+        let next : at + suc count ≡ at + count + 1 = omega arith in
+        rw next (byte-passed (first-passed count (omega arith)) (omega arith) (omega arith))
 
--- A number's bits are joined to those before it.
-pub bits-passed :
-    {text : List ℕ} {from at bits : ℕ} → (bits < 0x80 → Passes text from at) → at < length text →
-    bitOr bits (getD text at 0) < 0x80 → Passes text from (at + 1)
-bits-passed {text} {from} {at} {bits} passed inside small =
-    let number = getD text at 0 in
-    let sum : bitOr bits number + bitAnd bits number ≡ bits + number = or-add-and bits number in
-    byte-passed (passed (omega (arith, and-le-r bits number))) inside (omega (arith, and-le-l bits number))
-
--- Two runs, one after the other.
-pub both-ascii :
-    {text : List ℕ} {from middle middle′ next : ℕ} (first second : Bool) → (first ≡ true → Passes text from middle) →
-    (second ≡ true → Passes text middle′ next) → middle ≡ middle′ → first && second ≡ true → Passes text from next
-both-ascii true second p q meet test = both-passed (rw meet at (p refl)) (q test)
-both-ascii false second p q meet test = absurd (false≢true test)
+    pub bits-passed : at ≤ end → Passes text from end
+    bits-passed onward =
+        let all : at + (end - at) ≡ end = omega arith in
+        rw all at (first-passed (end - at) (omega arith))
 
 -- ---- the whole text
 

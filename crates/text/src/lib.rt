@@ -1,8 +1,7 @@
 // Text: is a part of a message UTF-8, by RFC 3629's byte ranges (13; the writer's 26).
 ghost use mathlib.Core.Path.{_≡_};
-ghost use mathlib.Core.Bool.{true};
 ghost use mathlib.Core.List.{[], _∷_};
-ghost use Prim.Native.Nat.{_+_, _≤_, _<_};
+ghost use Prim.Native.Nat.{ℕ, _≤_, _<_};
 ghost use lib.ListN.{length, getD, drop};
 ghost use Rattle.rules.specs.Bytes.{part};
 ghost use Rattle.rules.specs.Text.{tail, holds, isUtf8};
@@ -88,14 +87,15 @@ fn sequence(lead: u64, second: u64, third: u64, fourth: u64) -> usize
     if !is_tail(third) {
         return 0;
     }
-    longer(lead, second, third, fourth)
+    longer(lead, second, fourth)
 }
 
-// UTF8-3 and UTF8-4, where some leads bound the second byte more narrowly than UTF8-tail: `pair` holds the two. What lies between
-// them is overlong (below E0A0 and F090), a surrogate (from EDA0 on), or above the last character (from F490 on).
-fn longer(lead: u64, second: u64, third: u64, fourth: u64) -> usize
-    requires { ⌜ (0xE0 ≤ lead) × (lead ≤ 0xF4) × Tail second × Tail third ⌝ }
-    ensures { λ r. ⌜ r ≡ sequenceOf (lead ∷ second ∷ third ∷ fourth ∷ []) ⌝ }
+// UTF8-3 and UTF8-4 with any tail for a third byte. Some leads bound the second byte more narrowly than UTF8-tail: `pair` holds the
+// two. What lies between them is overlong (below E0A0 and F090), a surrogate (from EDA0 on), or above the last character (from
+// F490 on).
+fn longer(lead: u64, second: u64, fourth: u64) -> usize
+    requires { ⌜ (0xE0 ≤ lead) × (lead ≤ 0xF4) × Tail second ⌝ }
+    ensures { λ r. ⌜ ((third : ℕ) → Tail third → r ≡ sequenceOf (lead ∷ second ∷ third ∷ fourth ∷ [])) ⌝ }
 {
     let pair = lead * 0x100 + second;
     if pair < 0xE0A0 {
@@ -133,27 +133,16 @@ fn byte_sequence(text: &[u8], at: usize) -> usize
     requires { ⌜ (at < length (now text)) × (0x80 ≤ getD (now text) at 0) ⌝ }
     ensures { λ r. ⌜ r ≡ sequenceOf (drop at (now (text .entry))) ⌝ }
 {
-    if 4 <= text.len() - at {
-        return sequence_of_bytes(text[at], text[at + 1], text[at + 2], text[at + 3]);
+    let rest = &text[at..];
+    if 4 <= rest.len() {
+        return sequence_of_bytes(rest[0], rest[1], rest[2], rest[3]);
     }
     sequence_of_bytes(
-        text[at],
-        byte_after(text, at, 1),
-        byte_after(text, at, 2),
-        byte_after(text, at, 3),
+        rest[0],
+        words::byte_at(rest, 1),
+        words::byte_at(rest, 2),
+        words::byte_at(rest, 3),
     )
-}
-
-// The byte so many places on, 0 past the end.
-fn byte_after(text: &[u8], at: usize, ahead: usize) -> u8
-    requires { ⌜ at ≤ length (now text) ⌝ }
-    ensures { λ r. ⌜ r ≡ getD (now (text .entry)) (at + ahead) 0 ⌝ }
-{
-    if ahead < text.len() - at {
-        text[at + ahead]
-    } else {
-        0
-    }
 }
 
 fn sequence_of_bytes(lead: u8, second: u8, third: u8, fourth: u8) -> usize
@@ -168,31 +157,16 @@ fn number_sequence(numbers: &[u64], at: usize) -> usize
     requires { ⌜ (at < length (now numbers)) × (0x80 ≤ getD (now numbers) at 0) ⌝ }
     ensures { λ r. ⌜ r ≡ sequenceOf (drop at (now (numbers .entry))) ⌝ }
 {
-    if 4 <= numbers.len() - at {
-        return sequence(
-            numbers[at],
-            numbers[at + 1],
-            numbers[at + 2],
-            numbers[at + 3],
-        );
+    let rest = &numbers[at..];
+    if 4 <= rest.len() {
+        return sequence(rest[0], rest[1], rest[2], rest[3]);
     }
     sequence(
-        numbers[at],
-        number_after(numbers, at, 1),
-        number_after(numbers, at, 2),
-        number_after(numbers, at, 3),
+        rest[0],
+        words::value_at(rest, 1),
+        words::value_at(rest, 2),
+        words::value_at(rest, 3),
     )
-}
-
-fn number_after(numbers: &[u64], at: usize, ahead: usize) -> u64
-    requires { ⌜ at ≤ length (now numbers) ⌝ }
-    ensures { λ r. ⌜ r ≡ getD (now (numbers .entry)) (at + ahead) 0 ⌝ }
-{
-    if ahead < numbers.len() - at {
-        numbers[at + ahead]
-    } else {
-        0
-    }
 }
 
 // The place after a run of ASCII, byte by byte after whole eights.
@@ -217,10 +191,11 @@ fn past_eights(text: &[u8], from: usize) -> usize
 {
     let mut at = from;
     while 8 <= text.len() - at {
-        if !eight_ascii(text, at) {
+        let end = at + 8;
+        if 0x80 <= words::byte_bits(&text[at..end]) {
             return at;
         }
-        at = past_blocks(text, at + 8);
+        at = past_blocks(text, end);
     }
     at
 }
@@ -231,37 +206,13 @@ fn past_blocks(text: &[u8], from: usize) -> usize
 {
     let mut at = from;
     while 32 <= text.len() - at {
-        if !block_ascii(text, at) {
+        let end = at + 32;
+        if 0x80 <= words::byte_bits(&text[at..end]) {
             return at;
         }
-        at += 32;
+        at = end;
     }
     at
-}
-
-// Are 32 bytes all ASCII?
-fn block_ascii(text: &[u8], at: usize) -> bool
-    requires { ⌜ at + 32 ≤ length (now text) ⌝ }
-    ensures { λ r. ⌜ (r ≡ true → Passes (now (text .entry)) at (at + 32)) ⌝ }
-{
-    let lower = eight_ascii(text, at) & eight_ascii(text, at + 8);
-    let upper = eight_ascii(text, at + 16) & eight_ascii(text, at + 24);
-    lower & upper
-}
-
-// Are eight bytes all ASCII? There is no branch for each.
-fn eight_ascii(text: &[u8], at: usize) -> bool
-    requires { ⌜ at + 8 ≤ length (now text) ⌝ }
-    ensures { λ r. ⌜ (r ≡ true → Passes (now (text .entry)) at (at + 8)) ⌝ }
-{
-    let mut ascii = true;
-    let mut next = at;
-    let end = at + 8;
-    while next < end {
-        ascii = ascii & (text[next] < 0x80);
-        next += 1;
-    }
-    ascii
 }
 
 fn past_ascii_numbers(numbers: &[u64], from: usize) -> usize
@@ -295,25 +246,11 @@ fn past_sixteens(numbers: &[u64], from: usize) -> usize
 {
     let mut at = from;
     while 16 <= numbers.len() - at {
-        if 0x80 <= bits_of_sixteen(numbers, at) {
+        let end = at + 16;
+        if 0x80 <= words::value_bits(&numbers[at..end]) {
             return at;
         }
-        at += 16;
+        at = end;
     }
     at
-}
-
-// All the bits of sixteen numbers. There is no branch for each.
-fn bits_of_sixteen(numbers: &[u64], at: usize) -> u64
-    requires { ⌜ at + 16 ≤ length (now numbers) ⌝ }
-    ensures { λ r. ⌜ (r < 0x80 → Passes (now (numbers .entry)) at (at + 16)) ⌝ }
-{
-    let mut bits: u64 = 0;
-    let mut next = at;
-    let end = at + 16;
-    while next < end {
-        bits = bits | numbers[next];
-        next += 1;
-    }
-    bits
 }

@@ -1,5 +1,6 @@
 pub mod Bits
 pub mod Fill
 pub mod Loads
+pub mod Padding
 pub mod Room
 pub mod Stores

@@ -1,7 +1,7 @@
 // Reads and stores of bytes, numbers and little-endian words, for any list and any place: what lies past the end reads
 // as 0, and a store past the end is left out. No function requires anything of its caller.
 ghost use mathlib.Core.Path.{_≡_};
-ghost use Prim.Native.Nat.{_+_, _≤_};
+ghost use Prim.Native.Nat.{_+_, _%_, _^_, _≤_};
 ghost use lib.Dec.{leb};
 ghost use lib.ListN.{length, getD, set};
 ghost use lib.Seq.{sets};
@@ -255,9 +255,9 @@ pub fn round_up(n: u32, alignment: u32) -> u64
     (n as u64 + (step - 1)) / step * step
 }
 
-// The length of an object with its fill.
-pub fn padded(n: u32) -> u64
-    ensures { λ r. ⌜ r ≡ padded n ⌝ }
+// The length of an object with its fill. For the last seven numbers that would be 2^64, which wraps to 0.
+pub fn padded(n: usize) -> usize
+    ensures { λ r. ⌜ r ≡ padded n % 2 ^ 64 ⌝ }
 {
-    (n as u64 + 7) / 8 * 8
+    std::num::wrapping_add_usize(n, 7) / 8 * 8
 }

@@ -8,14 +8,14 @@ use lib.ListN.{length}
 use lib.Seq.{sets}
 use Rattle.rules.specs.declared.Place.the-variants.{Index}
 use Rattle.rules.specs.Refusals.{fault, notAValue, Answer, accepted, require}
-use Rattle.rules.specs.TypeTable.{typeTable}
+use Rattle.rules.specs.TypeTable.{TypeTable}
 use Rattle.rules.specs.Answers as Rules
 use Rattle.rules.specs.Answers.{encode, closed}
 use Rattle.writer.specs.declared.Sizes.{Sizes}
 use Rattle.writer.specs.declared.Written.{Written}
-use Rattle.writer.specs.declared.cursor.Cursor.{Cursor}
-use Rattle.writer.specs.declared.cursor.Wrote.{Wrote}
-use Rattle.writer.specs.Putting.{Put}
+use Rattle.write_leaves.specs.declared.cursor.Cursor.{Cursor}
+use Rattle.write_leaves.specs.declared.cursor.Wrote.{Wrote}
+use Rattle.write_leaves.specs.Putting.{Put}
 use Rattle.writer.specs.Answers.{writtenOf, sizesOf}
 
 -- Where a message starts.
@@ -27,13 +27,14 @@ abbrev pub afterValue : (end : Cursor) (total : ℕ) → Answer Sizes
 afterValue end total =
     require (eqb (end .index) total) (fault notAValue (Index (end .index))) (accepted (record { bytes = end .next; handles = end .handles }))
 
-module _ (rows members values : List ℕ) (root : ℕ) (out out′ : List ℕ) where
+module _ (t : TypeTable) (values : List ℕ) (root : ℕ) (out out′ : List ℕ) where
   -- The whole message is one object, and claims no bytes in line.
   abbrev pub PrimaryPut : Wrote → Type 0
-  PrimaryPut r = Put values out out′ 0 0 0 start r (encode (typeTable rows members) root values)
+  PrimaryPut r = Put values out out′ 0 0 0 start r (encode t root values)
 
-  -- One pass with the test after it. A message stands from the start on, as far as there is room; what a refusal leaves is not
-  -- said: nothing is lent to a pass that may be refused.
+  -- One pass with the test after it. A message stands from the start on, as far as there is room; a refusal may leave a part of one
+  -- there, which is why nothing is lent to a pass that may be refused.
   pub record Passed (r : Written) : Type 0 where
-    pub answers : writtenOf r ≡ sizesOf (closed (length values) (encode (typeTable rows members) root values))
-    pub stored : (w : Rules.Written) → closed (length values) (encode (typeTable rows members) root values) ≡ accepted w → out′ ≡ sets out 0 (w .bytes)
+    pub answers : writtenOf r ≡ sizesOf (closed (length values) (encode t root values))
+    pub long : length out′ ≡ length out
+    pub stored : (w : Rules.Written) → closed (length values) (encode t root values) ≡ accepted w → out′ ≡ sets out 0 (w .bytes)

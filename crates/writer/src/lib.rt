@@ -1,18 +1,12 @@
 // The writer: document 01, "Object list and value list".
-mod cursor;
-mod envelopes;
 mod pass;
-mod planned;
-mod records;
-mod scalars;
-mod walk;
 
 ghost use mathlib.Core.Path.{_≡_};
 ghost use lib.ListN.{length};
 ghost use Rattle.rules.specs.TypeTable.{typeTable};
 ghost use Rattle.rules.specs.Answers as Rules;
-ghost use Rattle.rules.specs.Answers.{outputAfter};
-ghost use Rattle.writer.specs.Answers.{writtenOf, sizesOf};
+ghost use Rattle.rules.specs.Answers.{outputAfter, numbersOf, sized};
+ghost use Rattle.writer.specs.Answers.{writtenOf, writtenNumbers, sizesOf};
 use pass::measure;
 use pass::pass;
 use rules::Fault;
@@ -35,6 +29,7 @@ pub enum Written {
 pub fn write(rows: &[u32], members: &[u32], root: u32, values: &[u64], out: &mut [u8]) -> Written
     ensures answer { λ r. ⌜ writtenOf r ≡ sizesOf (Rules.write (typeTable (now (rows .entry)) (now (members .entry))) root (now (values .entry)) (length (now (out .entry)))) ⌝ }
     ensures output { λ _. ⌜ now (out .exit) ≡ outputAfter (Rules.write (typeTable (now (rows .entry)) (now (members .entry))) root (now (values .entry)) (length (now (out .entry)))) (now (out .entry)) ⌝ }
+    ensures numbers { λ r. ⌜ writtenNumbers r ≡ numbersOf 2 sized (Rules.write (typeTable (now (rows .entry)) (now (members .entry))) root (now (values .entry)) (length (now (out .entry)))) ⌝ }
 {
     let mut sizes = [0u32; 256];
     let mut alignments = [0u32; 256];

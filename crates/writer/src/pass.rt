@@ -2,23 +2,23 @@
 ghost use mathlib.Core.Path.{_≡_};
 ghost use Rattle.rules.specs.TypeTable.{typeTable};
 ghost use Rattle.rules.specs.Answers.{written};
-ghost use Rattle.layout.specs.Answers.{keptSizes, keptAlignments};
-ghost use Rattle.nesting.specs.Ready.{Ready};
+ghost use Rattle.layout.specs.Answers.{keptSizes, keptAlignments, givenIfSound};
+ghost use Rattle.layout.specs.Kept.{Zeroed};
+ghost use Rattle.layout.specs.Ready.{Ready};
 ghost use Rattle.writer.specs.Answers.{writtenOf, sizesOf};
 ghost use Rattle.writer.specs.Passing.{PrimaryPut, afterValue, Passed};
 use crate::Sizes;
 use crate::Written;
-use crate::cursor::Cursor;
-use crate::cursor::Wrote;
-use crate::cursor::fault_at;
-use crate::cursor::fault_of;
-use crate::cursor::put_zeros;
-use crate::walk::value;
 use layout::Soundness;
-use layout::prepare;
+use layout::climb::climb;
 use layout::root_allowed;
 use rules::Fault;
 use rules::Place;
+use write_leaves::cursor::Cursor;
+use write_leaves::cursor::Wrote;
+use write_leaves::cursor::fault_at;
+use write_records::records::fill_up;
+use write_walk::cycle::value;
 
 // The primary object: the root's value at 0, and its fill.
 fn primary(
@@ -30,8 +30,8 @@ fn primary(
     values: &[u64],
     out: &mut [u8],
 ) -> Wrote
-    requires { ⌜ Ready (now rows) (now members) (now sizes) (now alignments) 32 root ⌝ }
-    ensures { λ r. ⌜ PrimaryPut (now (rows .entry)) (now (members .entry)) (now (values .entry)) root (now (out .entry)) (now (out .exit)) r ⌝ }
+    requires { ⌜ Ready (typeTable (now rows) (now members)) (now sizes) (now alignments) 32 root ⌝ }
+    ensures { λ r. ⌜ PrimaryPut (typeTable (now (rows .entry)) (now (members .entry))) (now (values .entry)) root (now (out .entry)) (now (out .exit)) r ⌝ }
 {
     let size = words::number_at(sizes, root) as usize;
     let whole = (size + 7) / 8 * 8;
@@ -52,7 +52,7 @@ fn primary(
     ) {
         Wrote::Refused(f) => Wrote::Refused(f),
         Wrote::On(end) => {
-            put_zeros(out, size, whole - size);
+            fill_up(out, size);
             Wrote::On(end)
         }
     }
@@ -72,7 +72,7 @@ fn after(end: Cursor, total: usize) -> Written
 }
 
 // One walk of a value list, with the test after it. What there is no room for is counted and not stored.
-pub fn pass(
+pub(crate) fn pass(
     rows: &[u32],
     members: &[u32],
     sizes: &[u32; 256],
@@ -81,17 +81,18 @@ pub fn pass(
     values: &[u64],
     out: &mut [u8],
 ) -> Written
-    requires { ⌜ Ready (now rows) (now members) (now sizes) (now alignments) 32 root ⌝ }
-    ensures { λ r. ⌜ Passed (now (rows .entry)) (now (members .entry)) (now (values .entry)) root (now (out .entry)) (now (out .exit)) r ⌝ }
+    requires { ⌜ Ready (typeTable (now rows) (now members)) (now sizes) (now alignments) 32 root ⌝ }
+    ensures { λ r. ⌜ Passed (typeTable (now (rows .entry)) (now (members .entry))) (now (values .entry)) root (now (out .entry)) (now (out .exit)) r ⌝ }
 {
     match primary(rows, members, sizes, alignments, root as usize, values, out) {
-        Wrote::Refused(s) => Written::Refused(fault_of(s)),
+        Wrote::Refused(f) => Written::Refused(f),
         Wrote::On(end) => after(end, values.len()),
     }
 }
 
-// Every test but that of the room, by a pass that stores nothing. The arrays lent get the sizes and the alignments that it goes by.
-pub fn measure(
+// Every test but that of the room, by a pass that stores nothing. The arrays lent, zero before, get the sizes and the
+// alignments that it goes by.
+pub(crate) fn measure(
     rows: &[u32],
     members: &[u32],
     sizes: &mut [u32; 256],
@@ -99,11 +100,16 @@ pub fn measure(
     root: u32,
     values: &[u64],
 ) -> Written
+    requires { ⌜ Zeroed (now sizes) × Zeroed (now alignments) ⌝ }
     ensures answer { λ r. ⌜ writtenOf r ≡ sizesOf (written (typeTable (now (rows .entry)) (now (members .entry))) root (now (values .entry))) ⌝ }
-    ensures sizes { λ _. ⌜ now (sizes .exit) ≡ keptSizes (typeTable (now (rows .entry)) (now (members .entry))) ⌝ }
-    ensures alignments { λ _. ⌜ now (alignments .exit) ≡ keptAlignments (typeTable (now (rows .entry)) (now (members .entry))) ⌝ }
+    ensures sizes { λ _.
+        let t = typeTable (now (rows .entry)) (now (members .entry)) in
+        ⌜ now (sizes .exit) ≡ givenIfSound t (keptSizes t) (now (sizes .entry)) ⌝ }
+    ensures alignments { λ _.
+        let t = typeTable (now (rows .entry)) (now (members .entry)) in
+        ⌜ now (alignments .exit) ≡ givenIfSound t (keptAlignments t) (now (alignments .entry)) ⌝ }
 {
-    let verdict = prepare(rows, members, sizes, alignments);
+    let verdict = climb(rows, members, sizes, alignments);
     if let Soundness::Refused(f) = verdict {
         return Written::Refused(f);
     }

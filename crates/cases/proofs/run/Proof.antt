@@ -6,7 +6,7 @@ use Prim.Native.Nat.{_-_, _≤_, _<_}
 use native.Mathlib.Omega.{arith}
 use borrow.Author.Needs.{needs}
 use lib.ListN.{length}
-use Rattle.stream.proofs.Laws.{line-length}
+use Rattle.stream.proofs.Laws.{line-moved}
 use Rattle.cases.proofs.run.Statement.{statement}
 use Rattle.cases.proofs.run.Tie as tie
 
@@ -17,8 +17,8 @@ Inv-loop text numbers₀ passed₀ failed₀ failures₀ line₀ at₀ numbers p
 abbrev μ-loop : tie.MeasureT-loop
 μ-loop text numbers₀ passed₀ failed₀ failures₀ line₀ at₀ numbers passed failed failures line at = length text - at
 
-case-room-requires : tie.Need-case-room-requires Inv-loop μ-loop
-case-room-requires c κs = search needs
+line-room-requires : tie.Need-line-room-requires Inv-loop μ-loop
+line-room-requires c κs = search needs
 
 loop-holds : tie.Need-loop-holds Inv-loop μ-loop
 loop-holds c = search needs
@@ -35,10 +35,7 @@ moved :
     (c .before .before .before .loop .at < c .read-line .result .next)
     × (c .read-line .result .next ≤ length (c .before .before .before .before .before .before .args .text .now))
 moved c =
-    let text = c .before .before .before .before .before .before .args .text .now in
-    let at = c .before .before .before .loop .at in
-    let further = line-length text at (omega arith) in
-    (omega (arith, c .read-line .ensures .passed, further .0), omega (arith, c .read-line .ensures .passed, further .1))
+    line-moved (c .before .before .before .before .before .before .args .text .now) (c .before .before .before .loop .at) (omega arith) (c .read-line .ensures)
 
 add-line : tie.Need-add-line Inv-loop μ-loop
 add-line c = search needs
@@ -91,7 +88,7 @@ run-spec =
     (tie.spec
     Inv-loop
     μ-loop
-    case-room-requires
+    line-room-requires
     loop-holds
     slice-aggregate-read-line
     read-line-requires

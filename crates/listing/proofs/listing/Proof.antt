@@ -40,7 +40,7 @@ held c =
 few : (c : tie.After-lengths)
     → (c .lengths .given .0 .0 .objects ≡ length (take (c .lengths .given .0 .0 .objects) (objects-at c)))
     × (c .lengths .given .0 .0 .values ≡ length (take (c .lengths .given .0 .0 .values) (values-at c)))
-    × (c .lengths .given .0 .0 .objects ≤ 8208) × (c .lengths .given .0 .0 .values ≤ 8208)
+    × (c .lengths .given .0 .0 .objects ≤ 8196) × (c .lengths .given .0 .0 .values ≤ 8196)
 few c =
     let lists = held c in
     let given = c .before .before .before .before in

@@ -1,7 +1,6 @@
 -- `nesting::next_step` meets its contract: a law for each answer, and what the guard says of the level.
 -- Assumes nothing.
 use borrow.Author.Needs.{needs}
-use native.Mathlib.Omega.{arith}
 use Rattle.nesting.proofs.Nested.{level-known, step-impossible, step-fill, step-done, step-out, step-into, step-call}
 use Rattle.nesting.proofs.next_step.Statement.{statement}
 use Rattle.nesting.proofs.next_step.Tie as tie
@@ -15,12 +14,6 @@ next-place-requires c κs = level-known (c .before .before .before .before .befo
 returns-2 : tie.Need-returns-2
 returns-2 c = search (needs, step-fill)
 
-mul-number-at : tie.Need-mul-number-at
-mul-number-at c = omega (arith, level-known (c .before .before .before .before .before .before .before .before .args .rows .now) (c .before .before .before .before .before .before .before .before .args .members .now) (c .before .before .before .before .before .before .before .before .args .level) (c .before .before .before .before .before .before .before .before .args .place) (c .before .before .if1 .left))
-
-add-number-at : tie.Need-add-number-at
-add-number-at c = omega (arith, level-known (c .before .before .before .before .before .before .before .before .args .rows .now) (c .before .before .before .before .before .before .before .before .args .members .now) (c .before .before .before .before .before .before .before .before .args .level) (c .before .before .before .before .before .before .before .before .args .place) (c .before .before .if1 .left))
-
 returns-3 : tie.Need-returns-3
 returns-3 c = search (needs, step-done)
 
@@ -29,7 +22,7 @@ returns-4 c = search (needs, step-out)
 
 next-part-requires : tie.Need-next-part-requires
 next-part-requires c κs =
-    let known = level-known (c .before .before .before .before .before .before .before .before .before .before .before .args .rows .now) (c .before .before .before .before .before .before .before .before .before .before .before .args .members .now) (c .before .before .before .before .before .before .before .before .before .before .before .args .level) (c .before .before .before .before .before .before .before .before .before .before .before .args .place) (c .before .before .before .before .before .if1 .left) in
+    let known = level-known (c .before .before .before .before .before .before .before .before .before .before .args .rows .now) (c .before .before .before .before .before .before .before .before .before .before .args .members .now) (c .before .before .before .before .before .before .before .before .before .before .args .level) (c .before .before .before .before .before .before .before .before .before .before .args .place) (c .before .before .before .before .if1 .left) in
     (known .0, known .1)
 
 returns-5 : tie.Need-returns-5
@@ -42,5 +35,5 @@ pub next-step-spec : {M : Type 1} → statement M
 next-step-spec =
     tie.close
     (tie.spec
-    returns next-place-requires returns-2 mul-number-at add-number-at (λ c κs. search needs)
-    (λ c. search needs) returns-3 returns-4 next-part-requires (λ c κs. search needs) returns-5 returns-6)
+    returns next-place-requires returns-2 (λ c κs. search needs) (λ c. search needs) returns-3 returns-4
+    next-part-requires (λ c κs. search needs) returns-5 returns-6)

@@ -5,7 +5,7 @@ use Prim.Native.Nat.{_-_}
 use borrow.Author.Needs.{needs}
 use lib.ListN.{length, length-set}
 use Rattle.rules.specs.Refusals.{placeNumber}
-use Rattle.writer.proofs.Filling.{Filled, filled-none, filled-length}
+use Rattle.write_leaves.proofs.Filling.{Filled, filled-none, filled-length}
 use Rattle.ratlinery.proofs.Telling.{one-cleared, all-cleared}
 use Rattle.ratlinery.proofs.refused.Statement.{statement}
 use Rattle.ratlinery.proofs.refused.Tie as tie

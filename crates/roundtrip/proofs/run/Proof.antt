@@ -6,7 +6,7 @@ use Prim.Native.Nat.{_-_, _≤_, _<_}
 use native.Mathlib.Omega.{arith}
 use borrow.Author.Needs.{needs}
 use lib.ListN.{length}
-use Rattle.stream.proofs.Laws.{line-length}
+use Rattle.stream.proofs.Laws.{line-moved}
 use Rattle.roundtrip.proofs.run.Statement.{statement}
 use Rattle.roundtrip.proofs.run.Tie as tie
 
@@ -22,10 +22,7 @@ moved :
     (c .before .before .before .loop .at < c .read-line .result .next)
     × (c .read-line .result .next ≤ length (c .before .before .before .before .before .before .args .text .now))
 moved c =
-    let text = c .before .before .before .before .before .before .args .text .now in
-    let at = c .before .before .before .loop .at in
-    let further = line-length text at (omega arith) in
-    (omega (arith, c .read-line .ensures .passed, further .0), omega (arith, c .read-line .ensures .passed, further .1))
+    line-moved (c .before .before .before .before .before .before .args .text .now) (c .before .before .before .loop .at) (omega arith) (c .read-line .ensures)
 
 loop-less : tie.Need-loop-less Inv-loop μ-loop
 loop-less c = omega (arith, moved (c .before .before .before .before .before .before .before))

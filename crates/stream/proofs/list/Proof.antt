@@ -6,6 +6,7 @@ use native.Mathlib.Omega.{arith}
 use lib.ListN.{take, getD, drop-of-length-le}
 use lib.Seq.{take-nil}
 use borrow.Author.Needs.{needs}
+use Rattle.stream.proofs.Laws.{start-past}
 use Rattle.stream.proofs.list.Statement.{statement}
 use Rattle.stream.proofs.list.Tie as tie
 
@@ -15,8 +16,10 @@ slice-aggregate-result c = search needs
 returns : tie.Need-returns
 returns c =
     let a = c .before .before .before .args in
-    let count = getD (a .case .now) (a .at) 0 in
-    sym (ap (take count) (drop-of-length-le (a .case .now) {i = a .at + 1} (omega arith)) ∙ take-nil {A = ℕ} count)
+    let count = getD (a .case .now) (a .at) 0 in (
+      sym (ap (take count) (drop-of-length-le (a .case .now) {i = a .at + 1} (omega arith)) ∙ take-nil {A = ℕ} count),
+      start-past (a .case .now) (a .at + 1) (a .case .ptr) (omega arith),
+    )
 
 add-rest : tie.Need-add-rest
 add-rest c = search needs
@@ -31,7 +34,9 @@ first-requires : tie.Need-first-requires
 first-requires c κs = search needs
 
 returns-2 : tie.Need-returns-2
-returns-2 c = rw (c .before .value-at .ensures, c .before .before .rest .ensures) at (c .first .ensures)
+returns-2 c =
+    let rest = c .before .before .rest .ensures in
+    (rw (c .before .value-at .ensures, rest .0) at (c .first .ensures .0), c .first .ensures .1 ∙ rest .1)
 
 pub list-spec : {M : Type 1} → statement M
 list-spec =

@@ -1,4 +1,4 @@
--- `stream::rest` meets its contract: a part up to the end is all that is left.
+-- `stream::rest` meets its contract: a part up to the end is all that is left, and starts at its own place.
 -- Assumes nothing.
 use mathlib.Core.Path.{sym}
 use Prim.Native.Nat.{_-_}
@@ -6,6 +6,7 @@ use native.Mathlib.Omega.{arith}
 use lib.ListN.{length, drop, length-drop, drop-of-length-le}
 use lib.Seq.{take-all}
 use borrow.Author.Needs.{needs}
+use Rattle.stream.proofs.Laws.{start-inside, start-past}
 use Rattle.stream.proofs.rest.Statement.{statement}
 use Rattle.stream.proofs.rest.Tie as tie
 
@@ -26,11 +27,15 @@ slice-aggregate-result c = search needs
 
 returns : tie.Need-returns
 returns c =
-    let a = c .before .before .args in
-    take-all (length (a .numbers .now) - a .at) (drop (a .at) (a .numbers .now)) (omega (arith, length-drop (a .at) (a .numbers .now)))
+    let a = c .before .before .args in (
+      take-all (length (a .numbers .now) - a .at) (drop (a .at) (a .numbers .now)) (omega (arith, length-drop (a .at) (a .numbers .now))),
+      start-inside (a .numbers .now) (a .at) (a .numbers .ptr) (omega arith),
+    )
 
 returns-2 : tie.Need-returns-2
-returns-2 c = sym (drop-of-length-le (c .before .before .args .numbers .now) {i = c .before .before .args .at} (omega arith))
+returns-2 c =
+    let a = c .before .before .args in
+    (sym (drop-of-length-le (a .numbers .now) {i = a .at} (omega arith)), start-past (a .numbers .now) (a .at) (a .numbers .ptr) (omega arith))
 
 pub rest-spec : {M : Type 1} → statement M
 rest-spec =

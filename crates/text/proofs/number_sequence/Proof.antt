@@ -1,7 +1,7 @@
 -- `text::number_sequence` meets its contract: the four numbers are those of the text, 0 past its end.
 -- Assumes nothing.
 use borrow.Author.Needs.{needs}
-use Rattle.text.proofs.Forms.{by-four}
+use Rattle.text.proofs.Forms.{rest-lead, rest-by-four}
 use Rattle.text.proofs.number_sequence.Statement.{statement}
 use Rattle.text.proofs.number_sequence.Tie as tie
 
@@ -9,8 +9,6 @@ pub number-sequence-spec : {M : Type 1} → statement M
 number-sequence-spec =
     tie.close
     (tie.spec
-    (λ c. search needs) (λ c. search needs) (λ c. search needs) (λ c. search needs) (λ c. search needs)
-    (λ c. search needs) (λ c. search needs) (λ c. search needs) (λ c. search needs) (λ c. search needs)
-    (λ c. search needs) (λ c. search needs) (λ c κs. search needs) (λ c. search (needs, by-four)) (λ c. search needs)
-    (λ c. search needs) (λ c κs. search needs) (λ c κs. search needs) (λ c κs. search needs) (λ c κs. search needs)
-    (λ c. search (needs, by-four)))
+    (λ c. search needs) (λ c. search needs) (λ c. search needs) (λ c. search needs) (λ c. search needs) (λ c. search needs)
+    (λ c. search needs) (λ c. search needs) (λ c κs. search (needs, rest-lead)) (λ c. search (needs, rest-by-four)) (λ c. search needs)
+    (λ c κs. search needs) (λ c κs. search needs) (λ c κs. search needs) (λ c κs. search (needs, rest-lead)) (λ c. search (needs, rest-by-four)))

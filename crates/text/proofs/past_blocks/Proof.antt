@@ -2,11 +2,11 @@
 -- measure is what is left of the text.
 -- Assumes nothing.
 use Prim.Native.Nat.{_-_}
+use native.Mathlib.Omega.{arith}
 use borrow.Author.Needs.{needs}
-use borrow.Author.Tests.{not-false}
 use lib.ListN.{length}
 use Rattle.text.specs.Sequences.{Passes}
-use Rattle.text.proofs.Laws.{nothing-passed, both-passed}
+use Rattle.text.proofs.Laws.{nothing-passed, bits-passed}
 use Rattle.text.proofs.past_blocks.Statement.{statement}
 use Rattle.text.proofs.past_blocks.Tie as tie
 
@@ -17,11 +17,12 @@ abbrev μ-loop : tie.MeasureT-loop
 μ-loop text from at₀ at = length text - at
 
 loop-again : tie.Need-loop-again Inv-loop μ-loop
-loop-again c = both-passed (c .before .before .before .loop .inv) (c .before .block-ascii .ensures (not-false _ (c .if1 .left)))
+loop-again c =
+    bits-passed (c .before .before .before .before .loop .inv) (omega arith) (c .before .byte-bits .ensures) (c .if1 .left) (omega arith)
 
 pub past-blocks-spec : {M : Type 1} → statement M
 past-blocks-spec =
     tie.close
     (tie.spec
-    Inv-loop μ-loop (λ c. search (needs, nothing-passed)) (λ c. search needs) (λ c κs. search needs) (λ c. search needs)
-    (λ c. search needs) (λ c. search needs) loop-again (λ c. search needs))
+    Inv-loop μ-loop (λ c. search (needs, nothing-passed)) (λ c. search needs) (λ c. search needs) (λ c. search needs)
+    (λ c. search needs) (λ c. search needs) (λ c κs. search needs) (λ c. search needs) (λ c. search needs) loop-again (λ c. search needs))

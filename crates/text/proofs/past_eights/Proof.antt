@@ -2,11 +2,11 @@
 -- measure is what is left of the text.
 -- Assumes nothing.
 use Prim.Native.Nat.{_-_}
+use native.Mathlib.Omega.{arith}
 use borrow.Author.Needs.{needs}
-use borrow.Author.Tests.{not-false}
 use lib.ListN.{length}
 use Rattle.text.specs.Sequences.{Passes}
-use Rattle.text.proofs.Laws.{nothing-passed, both-passed}
+use Rattle.text.proofs.Laws.{nothing-passed, both-passed, bits-passed}
 use Rattle.text.proofs.past_eights.Statement.{statement}
 use Rattle.text.proofs.past_eights.Tie as tie
 
@@ -18,12 +18,13 @@ abbrev μ-loop : tie.MeasureT-loop
 
 loop-again : tie.Need-loop-again Inv-loop μ-loop
 loop-again c =
-    both-passed (c .before .before .before .before .loop .inv)
-    (both-passed (c .before .before .eight-ascii .ensures (not-false _ (c .before .if1 .left))) (c .past-blocks .ensures))
+    both-passed
+    (bits-passed (c .before .before .before .before .before .loop .inv) (omega arith) (c .before .before .byte-bits .ensures) (c .before .if1 .left) (omega arith))
+    (c .past-blocks .ensures)
 
 pub past-eights-spec : {M : Type 1} → statement M
 past-eights-spec =
     tie.close
     (tie.spec
-    Inv-loop μ-loop (λ c. search (needs, nothing-passed)) (λ c. search needs) (λ c κs. search needs) (λ c. search needs)
-    (λ c. search needs) (λ c κs. search needs) (λ c. search needs) loop-again (λ c. search needs))
+    Inv-loop μ-loop (λ c. search (needs, nothing-passed)) (λ c. search needs) (λ c. search needs) (λ c. search needs)
+    (λ c. search needs) (λ c. search needs) (λ c κs. search needs) (λ c. search needs) (λ c κs. search needs) (λ c. search needs) loop-again (λ c. search needs))

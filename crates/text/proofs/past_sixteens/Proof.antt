@@ -2,22 +2,27 @@
 -- measure is what is left of the text.
 -- Assumes nothing.
 use Prim.Native.Nat.{_-_}
+use native.Mathlib.Omega.{arith}
 use borrow.Author.Needs.{needs}
 use lib.ListN.{length}
 use Rattle.text.specs.Sequences.{Passes}
-use Rattle.text.proofs.Laws.{nothing-passed, both-passed}
+use Rattle.text.proofs.Laws.{nothing-passed, bits-passed}
 use Rattle.text.proofs.past_sixteens.Statement.{statement}
 use Rattle.text.proofs.past_sixteens.Tie as tie
 
 abbrev Inv-loop : tie.InvT-loop
-Inv-loop text from at₀ at = Passes text from at
+Inv-loop numbers from at₀ at = Passes numbers from at
 
 abbrev μ-loop : tie.MeasureT-loop
-μ-loop text from at₀ at = length text - at
+μ-loop numbers from at₀ at = length numbers - at
+
+loop-again : tie.Need-loop-again Inv-loop μ-loop
+loop-again c =
+    bits-passed (c .before .before .before .before .loop .inv) (omega arith) (c .before .value-bits .ensures) (c .if1 .left) (omega arith)
 
 pub past-sixteens-spec : {M : Type 1} → statement M
 past-sixteens-spec =
     tie.close
     (tie.spec
-    Inv-loop μ-loop (λ c. search (needs, nothing-passed)) (λ c. search needs) (λ c κs. search needs) (λ c. search needs)
-    (λ c. search needs) (λ c. search needs) (λ c. search (needs, both-passed, c .before .bits-of-sixteen .ensures)) (λ c. search needs))
+    Inv-loop μ-loop (λ c. search (needs, nothing-passed)) (λ c. search needs) (λ c. search needs) (λ c. search needs) (λ c. search needs)
+    (λ c. search needs) (λ c. search needs) (λ c κs. search needs) (λ c. search needs) (λ c. search needs) loop-again (λ c. search needs))

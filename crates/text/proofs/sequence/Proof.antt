@@ -25,11 +25,14 @@ returns-5 c = bad-tail 2 _ _ 1 (omega arith) (c .before .is-tail2 .ensures) (c .
 
 longer-requires : tie.Need-longer-requires
 longer-requires c κs =
-    (omega arith, omega arith, tail-bounds _ (c .before .before .before .before .is-tail .ensures) (c .before .before .before .if3 .left), tail-bounds _ (c .before .is-tail2 .ensures) (c .if5 .left))
+    (omega arith, omega arith, tail-bounds _ (c .before .before .before .before .is-tail .ensures) (c .before .before .before .if3 .left))
+
+returns-6 : tie.Need-returns-6
+returns-6 c = c .longer .ensures _ (tail-bounds _ (c .before .before .is-tail2 .ensures) (c .before .if5 .left))
 
 pub sequence-spec : {M : Type 1} → statement M
 sequence-spec =
     tie.close
     (tie.spec
     returns returns-2 (λ c κs. search needs) returns-3 returns-4 (λ c κs. search needs) returns-5 longer-requires
-    (λ c. search needs))
+    returns-6)

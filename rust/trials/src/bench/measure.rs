@@ -20,10 +20,14 @@ pub enum Operation {
     Write,
     /// All of a message's way from nothing: the table judged, the message checked, read and written.
     OneShot,
+    /// The layout of the root.
+    Layout,
 }
 
 impl Operation {
-    pub const ALL: [Operation; 4] = [Operation::Check, Operation::Read, Operation::Write, Operation::OneShot];
+    /// What is done with a message.
+    pub const OF_MESSAGES: [Operation; 4] =
+        [Operation::Check, Operation::Read, Operation::Write, Operation::OneShot];
 
     pub fn name(self) -> &'static str {
         match self {
@@ -31,6 +35,7 @@ impl Operation {
             Operation::Read => "read",
             Operation::Write => "write",
             Operation::OneShot => "one-shot",
+            Operation::Layout => "layout",
         }
     }
 
@@ -39,8 +44,13 @@ impl Operation {
         match self {
             Operation::Check | Operation::Read => Some(1.5),
             Operation::Write => Some(2.0),
-            Operation::OneShot => None,
+            Operation::OneShot | Operation::Layout => None,
         }
+    }
+
+    /// How many nanoseconds it may take, whatever the table.
+    pub fn limit(self) -> Option<f64> {
+        (self == Operation::Layout).then_some(1e6)
     }
 }
 
@@ -134,6 +144,7 @@ fn by_face(face: &dyn Face, workload: &Workload, operation: Operation, buffers: 
                 | face.read(table, root, message, values, objects, answer)
                 | face.write(table, root, &workload.values, out, answer)
         }
+        Operation::Layout => face.layout(table, root, answer),
     };
     assert_eq!(number, 0, "{}", workload.name);
     black_box((answer, buffers));
@@ -154,6 +165,7 @@ fn prepared(schema: &Schema, workload: &Workload, operation: Operation, buffers:
                 && schema.read(root, message, Some(values), Some(objects)).is_ok()
                 && schema.write_into(root, &workload.values, out).is_ok()
         }
+        Operation::Layout => schema.layout(root).is_ok(),
     };
     assert!(given, "{}", workload.name);
     black_box(buffers);

@@ -47,7 +47,7 @@ fn time(nanoseconds: f64) -> String {
 }
 
 /// Prints every workload; answers which targets are missed.
-pub fn print_workloads(all: &[Measured]) -> Vec<String> {
+pub fn print_workloads<'m>(all: impl IntoIterator<Item = &'m Measured>) -> Vec<String> {
     let mut missed = Vec::new();
     println!(
         "| workload | bytes | operation | Ratlinery | reference | ratio | table judged before | ratio | copy |"
@@ -58,6 +58,9 @@ pub fn print_workloads(all: &[Measured]) -> Vec<String> {
             let over = operation.target().is_some_and(|target| times.ratio() > target);
             if over {
                 missed.push(format!("{} of {}: {:.2}", operation.name(), measured.name, times.ratio()));
+            }
+            if operation.limit().is_some_and(|limit| times.library > limit) {
+                missed.push(format!("{} of {}: {}", operation.name(), measured.name, time(times.library)));
             }
             println!(
                 "| {} | {} | {} | {} | {} | {:.2}{} | {} | {:.2} | {} |",

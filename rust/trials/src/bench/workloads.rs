@@ -1,9 +1,10 @@
-//! What is measured: a type table with a message and its value list each.
+//! What is measured: a type table with a message and its value list each, and type tables alone.
 
 use crate::generate::table::Lists;
+use crate::random::Random;
 use ratlinery_reference::Message;
 
-/// A message of a type.
+/// A message of a type; or a type table alone, whose own bytes then stand where a message's would.
 pub struct Workload {
     pub name: String,
     pub lists: Lists,
@@ -20,6 +21,20 @@ impl Workload {
         let written = lists.table().schema().and_then(|schema| schema.write(root, &values));
         let (bytes, handles) = written.unwrap_or_else(|refusal| panic!("{name}: {refusal:?}"));
         Workload { name: name.into(), lists, root, bytes, handles, values }
+    }
+
+    /// A type table whose last row is laid out.
+    fn table(name: &str, rows: &[[u32; 4]], members: &[[u32; 2]]) -> Self {
+        let lists = Lists { rows: rows.concat(), members: members.concat() };
+        let bytes = lists.rows.iter().chain(&lists.members).flat_map(|number| number.to_le_bytes()).collect();
+        Workload {
+            name: name.into(),
+            lists,
+            root: rows.len() as u32 - 1,
+            bytes,
+            handles: 0,
+            values: Vec::new(),
+        }
     }
 
     pub fn message(&self) -> Message<'_> {
@@ -45,6 +60,33 @@ pub fn all() -> Vec<Workload> {
         unions(),
         unknown_envelopes(),
     ]
+}
+
+/// Type tables at the limits, made to cost as much as they can: each takes all 256 rows.
+pub fn tables() -> Vec<Workload> {
+    vec![doubled_structs(), shared_members()]
+}
+
+/// 240 structs, each in the next, under 15 structs of two of the one before: whoever works out an inner row anew for
+/// each member that names it takes millions of steps.
+fn doubled_structs() -> Workload {
+    let mut rows = vec![[2, 1, 0, 0]];
+    let mut members = Vec::new();
+    for row in 0..255 {
+        let count = if row < 240 { 1 } else { 2 };
+        rows.push([7, members.len() as u32, count, 0]);
+        members.extend((1..=count).map(|ordinal| [ordinal, row]));
+    }
+    Workload::table("structs doubled 15 times", &rows, &members)
+}
+
+/// 252 structs that name the same 1,024 members, whose alignments follow no pattern.
+fn shared_members() -> Workload {
+    let mut random = Random::of_case(1, 1);
+    let numbers = [1, 2, 4, 8].map(|width| [2, width, 0, 0]);
+    let rows = [&numbers[..], &[[7, 0, 1024, 0]; 252]].concat();
+    let members: Vec<[u32; 2]> = (1..=1024).map(|ordinal| [ordinal, random.pick(&[0, 1, 2, 3])]).collect();
+    Workload::table("252 structs of 1,024 members", &rows, &members)
 }
 
 /// Two messages of each size from 1 KB to 64 KB: structs with fill, and strings, each an object of its own.

@@ -8,7 +8,7 @@
 use ratlinery_trials::bench::measure::{Operation, times};
 use ratlinery_trials::bench::plot;
 use ratlinery_trials::bench::report::{Growth, Measured, print_growth, print_workloads};
-use ratlinery_trials::bench::workloads::{Workload, all, growing};
+use ratlinery_trials::bench::workloads::{Workload, all, growing, tables};
 use std::process::ExitCode;
 
 const PLOT: &str = concat!(env!("CARGO_MANIFEST_DIR"), "/../../target/bench.svg");
@@ -18,9 +18,12 @@ fn main() -> ExitCode {
     let strict = words.iter().any(|word| word == "--strict");
     let path = words.iter().find(|word| *word != "--strict").map_or(PLOT, String::as_str);
 
-    let workloads: Vec<Measured> = all().iter().map(|workload| measured(workload, &Operation::ALL)).collect();
-    let mut missed = print_workloads(&workloads);
-    let sized = |workload: &Workload| measured(workload, &Operation::ALL[..3]);
+    let workloads: Vec<Measured> =
+        all().iter().map(|workload| measured(workload, &Operation::OF_MESSAGES)).collect();
+    let tables: Vec<Measured> =
+        tables().iter().map(|workload| measured(workload, &[Operation::Layout])).collect();
+    let mut missed = print_workloads(workloads.iter().chain(&tables));
+    let sized = |workload: &Workload| measured(workload, &Operation::OF_MESSAGES[..3]);
     let growths: Vec<Growth> = growing()
         .into_iter()
         .map(|(name, sizes)| Growth { name, sizes: sizes.iter().map(sized).collect() })
@@ -28,7 +31,8 @@ fn main() -> ExitCode {
     missed.extend(print_growth(&growths));
 
     println!(
-        "\nratio: Ratlinery / reference; targets: check and read 1.5, write 2, growth no more than linear."
+        "\nratio: Ratlinery / reference; targets: check and read 1.5, write 2, growth no more than linear, \
+         layout under a millisecond."
     );
     println!("The fastest of 15 turns counts; buffers are reused and not cleared.");
     match &missed[..] {

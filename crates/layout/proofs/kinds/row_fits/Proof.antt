@@ -71,7 +71,7 @@ struct-arm c =
     let s = c .before .before .before .before .before .before .before .before in
     let t = typeTable (s .args .rows .now) (s .args .members .now) in
     let row = s .args .row in
-    rw (c .struct-members .ensures (s .args .rows .now))
+    rw (c .struct-members .ensures t refl)
     (line (c .before .before) 7 (c .before .match .keys7) (λ a b d. eqb d 0 && (membersExist t a b && structMembers t row a b 1))
     (sym (struct-line t row (aAt t row) (bAt t row))))
 
@@ -110,17 +110,9 @@ unfolding rowFits
 row-fits-spec =
     tie.close
     (tie.spec
-    (λ c κs. search needs)
-    (λ c κs. search needs)
-    (λ c κs. search needs)
-    (λ c κs. search needs)
-    (λ c. search needs)
-    (λ c κs. search needs)
-    (λ c. search needs)
-    (λ c κs. search needs)
-    (λ c κs. search needs)
-    (λ c κs. search needs)
-    (λ c. line (c .before) 1 (c .match .keys1) (λ a b d. eqb a 0 && eqb b 0 && eqb d 0) refl)
+    (λ c κs. search needs) (λ c κs. search needs) (λ c κs. search needs) (λ c κs. search needs) (λ c. search needs)
+    (λ c κs. search needs) (λ c. search needs) (λ c. search needs) (λ c κs. search needs) (λ c κs. search needs)
+    (λ c κs. search needs) (λ c. line (c .before) 1 (c .match .keys1) (λ a b d. eqb a 0 && eqb b 0 && eqb d 0) refl)
     (λ c. line (c .before) 2 (c .match .keys2) (λ a b d. (eqb a 1 || eqb a 2 || eqb a 4 || eqb a 8) && eqb b 0 && eqb d 0) refl)
     (λ c. line (c .before) 3 (c .match .keys3) (λ a b d. leb a 1 && eqb b 0 && eqb d 0) refl)
     (λ c.
@@ -129,9 +121,5 @@ row-fits-spec =
     (λ c.
     let rows = length (c .before .before .before .before .before .before .before .args .rows .now) / 4 in
     line (c .before) 5 (c .match .keys5) (λ a b d. ltb a rows && leb d 1) refl)
-    (λ c. line (c .before) 6 (c .match .keys6) (λ a b d. eqb a 0 && leb d 1) refl)
-    struct-arm
-    box-arm
-    table-arm
-    union-arm
+    (λ c. line (c .before) 6 (c .match .keys6) (λ a b d. eqb a 0 && leb d 1) refl) struct-arm box-arm table-arm union-arm
     other-arm)

@@ -27,12 +27,12 @@ unfolding layoutAs envelopeSize
 fixed-layout-spec =
     tie.close
     (tie.spec
-    (λ c rows members inner d e. rw (c .match .keys1))
-    (λ c rows members inner d e. rw (c .match .keys2))
-    (λ c rows members inner d e. rw (c .match .keys3))
-    (λ c rows members inner d e. rw (c .match .keys4))
-    (λ c rows members inner d e. rw (c .match .keys5))
-    (λ c rows members inner d e. rw (c .match .keys6))
-    (λ c rows members inner d e. rw (c .match .keys7))
-    (λ c rows members inner d e. rw (c .match .keys8))
-    (λ c rows members inner d e. rw (other-kind (c .before .args .kind) (c .before .args .a) d e (none-of c))))
+    (λ c t edition inner d e. rw (c .match .keys1))
+    (λ c t edition inner d e. rw (c .match .keys2))
+    (λ c t edition inner d e. rw (c .match .keys3))
+    (λ c t edition inner d e. rw (c .match .keys4))
+    (λ c t edition inner d e. rw (c .match .keys5))
+    (λ c t edition inner d e. rw (c .match .keys6))
+    (λ c t edition inner d e. rw (c .match .keys7))
+    (λ c t edition inner d e. rw (c .match .keys8, edition))
+    (λ c t edition inner d e. rw (other-kind (c .before .args .kind) (c .before .args .a) d e (none-of c))))

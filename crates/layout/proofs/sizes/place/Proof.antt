@@ -2,12 +2,15 @@
 -- Assumes nothing.
 use native.Mathlib.Omega.{arith}
 use borrow.Author.Needs.{needs}
+use Rattle.layout.proofs.Bounds.{alignment-bounds}
 use Rattle.layout.proofs.Structs.{round-most}
 use Rattle.layout.proofs.sizes.place.Statement.{statement}
 use Rattle.layout.proofs.sizes.place.Tie as tie
 
 end-fits : tie.Need-add-t4
-end-fits c = omega (arith, round-most (c .before .before .args .before .size) (c .before .before .pre .0))
+end-fits c =
+    let bounds = alignment-bounds (c .before .before .pre .0) in
+    omega (arith, bounds, round-most (c .before .before .args .before .size) (bounds .0))
 
 returns : tie.Need-returns
 returns c = rw (c .before .before .round-up .ensures, c .larger .ensures)

@@ -9,8 +9,8 @@ returns : tie.Need-returns
 returns c =
     let tested = c .before .before .before in
     let prepared = tested .before in (
-      judge-refused _ _ _ _ _ (prepared .prepare .ensures .0) (tested .before2 .ensures) (c .before .f .given .1),
-      prepared .prepare .ensures .1,
+      judge-refused _ _ _ _ _ (prepared .climb .ensures .0) (tested .before2 .ensures) (c .before .f .given .1),
+      prepared .climb .ensures .1,
     )
 
 pass-requires : tie.Need-pass-requires
@@ -18,8 +18,8 @@ pass-requires c κs =
     let allowed = c .before .before .before .before in
     let tested = allowed .before .before in
     let prepared = tested .before in
-    judge-walkable _ _ _ _ _ (prepared .prepare .ensures .0) (tested .before2 .ensures) (allowed .enum-told .given .1)
-    (prepared .prepare .ensures .1 .0) (prepared .prepare .ensures .1 .1)
+    judge-walkable _ _ _ _ _ (prepared .climb .ensures .0) (tested .before2 .ensures) (allowed .enum-told .given .1) _ _
+    (prepared .climb .ensures .1 .0) (prepared .climb .ensures .1 .1)
 
 returns-2 : tie.Need-returns-2
 returns-2 c =
@@ -27,8 +27,8 @@ returns-2 c =
     let allowed = walked .before .before .before .before .before in
     let tested = allowed .before .before in
     let prepared = tested .before in (
-      judge-passed _ _ _ _ _ (prepared .prepare .ensures .0) (tested .before2 .ensures) (allowed .enum-told .given .1) (walked .pass .ensures),
-      prepared .prepare .ensures .1,
+      judge-passed _ _ _ _ _ (prepared .climb .ensures .0) (tested .before2 .ensures) (allowed .enum-told .given .1) (walked .pass .ensures),
+      prepared .climb .ensures .1,
     )
 
 pub judge-spec : {M : Type 1} → statement M

@@ -1,12 +1,9 @@
 -- `reader::pass::pass` meets its contract: the walk is refused, or what comes after it answers.
 -- Assumes nothing.
 use borrow.Author.Needs.{needs}
-use Rattle.reader.proofs.Passes.{refusal-fits, walk-refused, walk-ended}
+use Rattle.reader.proofs.Passes.{walk-refused, walk-ended}
 use Rattle.reader.proofs.pass.pass.Statement.{statement}
 use Rattle.reader.proofs.pass.pass.Tie as tie
-
-fault-of-requires : tie.Need-fault-of-requires
-fault-of-requires c κs = search (needs, refusal-fits)
 
 returns : tie.Need-returns
 returns c = search (needs, walk-refused)
@@ -18,5 +15,5 @@ pub pass-spec : {M : Type 1} → statement M
 pass-spec =
     tie.close
     (tie.spec
-    (λ c κs. search needs) (λ c. search needs) fault-of-requires (λ c. search needs) (λ c κs. search needs)
+    (λ c κs. search needs) (λ c. search needs) (λ c. search needs) (λ c κs. search needs)
     (λ c. search needs) (λ c. search needs) returns (λ c. search needs) (λ c. search needs) returns-2)

@@ -18,8 +18,8 @@ pass-requires c κs =
     let sound = allowed .before .before in
     let prepared = sound .before .before in
     let a = prepared .before .before .before .before .before .before .args in
-    root-ready _ _ (a .values .now) _ _ (prepared .prepare .ensures .0) (sound .enum-told .given .1)
-    (allowed .before .root-allowed .ensures) (not-false _ (allowed .if1 .left)) (prepared .prepare .ensures .1 .0) (prepared .prepare .ensures .1 .1)
+    root-ready _ _ (a .values .now) _ _ (prepared .climb .ensures .0) (sound .enum-told .given .1)
+    (allowed .before .root-allowed .ensures) (not-false _ (allowed .if1 .left)) _ _ (prepared .climb .ensures .1 .0) (prepared .climb .ensures .1 .1)
 
 returns-3 : tie.Need-returns-3
 returns-3 c = search (needs, measured, not-false)

@@ -1,12 +1,9 @@
 -- `writer::pass::pass` meets its contract: the value is refused, or what comes after it answers.
 -- Assumes nothing.
 use borrow.Author.Needs.{needs}
-use Rattle.writer.proofs.Passes.{refusal-fits, value-refused, value-ended}
+use Rattle.writer.proofs.Passes.{value-refused, value-ended}
 use Rattle.writer.proofs.pass.pass.Statement.{statement}
 use Rattle.writer.proofs.pass.pass.Tie as tie
-
-fault-of-requires : tie.Need-fault-of-requires
-fault-of-requires c κs = search (needs, refusal-fits)
 
 returns : tie.Need-returns
 returns c = search (needs, value-refused)
@@ -18,5 +15,5 @@ pub pass-spec : {M : Type 1} → statement M
 pass-spec =
     tie.close
     (tie.spec
-    (λ c κs. search needs) (λ c. search needs) fault-of-requires (λ c. search needs) (λ c κs. search needs) (λ c. search needs)
+    (λ c κs. search needs) (λ c. search needs) (λ c. search needs) (λ c κs. search needs) (λ c. search needs)
     returns (λ c. search needs) returns-2)

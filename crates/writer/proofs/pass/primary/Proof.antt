@@ -10,8 +10,8 @@ value-requires c κs =
     let number = c .before in
     root-asked (number .before .before .before .before .before .before .pre) (number .number-at .ensures) _
 
-put-zeros-requires : tie.Need-put-zeros-requires
-put-zeros-requires c κs = search (needs, fill-asked)
+fill-up-requires : tie.Need-fill-up-requires
+fill-up-requires c κs = search (needs, fill-asked)
 
 returns : tie.Need-returns
 returns c = search (needs, primary-refused)
@@ -24,5 +24,5 @@ primary-spec =
     tie.close
     (tie.spec
     (λ c κs. search needs) (λ c. search needs) (λ c. search needs) (λ c. search needs) value-requires
-    (λ c. search needs) (λ c. search needs) (λ c. search needs) put-zeros-requires (λ c. search needs) returns
+    (λ c. search needs) (λ c. search needs) fill-up-requires (λ c. search needs) returns
     (λ c. search needs) returns-2)

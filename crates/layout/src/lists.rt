@@ -1,0 +1,13 @@
+// Whether the lists of a type table are whole.
+ghost use mathlib.Core.Path.{_≡_};
+ghost use Rattle.rules.specs.TypeTable.{typeTable};
+ghost use Rattle.rules.specs.Sound.{listsWhole};
+
+// "Lists whole": 1 to 256 rows of four numbers, 0 to 1,024 members of two.
+pub(crate) fn lists_whole(rows: &[u32], members: &[u32]) -> bool
+    ensures { λ r. ⌜ r ≡ listsWhole (typeTable (now (rows .entry)) (now (members .entry))) ⌝ }
+{
+    let n = rows.len();
+    let m = members.len();
+    (n % 4 == 0) & (4 <= n) & (n <= 1024) & (m % 2 == 0) & (m <= 2048)
+}

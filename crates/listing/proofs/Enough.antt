@@ -1,0 +1,78 @@
+-- How much room is enough for the lists of any message: as many numbers as it has bytes, and four more. Such room is never too
+-- small, so that the reader hands back the lists whole.
+-- Assumes nothing.
+use mathlib.Core.Path.{_≡_, refl, ap, _∙_}
+use mathlib.Core.Bool.{Bool, true, false, _&&_}
+use Prim.Native.Nat.{ℕ, _+_, _%_, _≤_}
+use native.Mathlib.Omega.{arith}
+use borrow.Author.Tests.{le-leb, eqb-true, ltb-true, ltb-false}
+use lib.Dec.{eqb, leb, ltb}
+use lib.ListN.{length, List·getD-eq-default}
+use Rattle.rules.specs.declared.Layout.{Layout}
+use Rattle.rules.specs.Refusals.{Answer, accepted, refused, andThen}
+use Rattle.rules.specs.TypeTable.{TypeTable, rowCount, kindAt, number, none, typeOf}
+use Rattle.rules.specs.Sizes.{layoutAs, layoutBelow, sizeOf}
+use Rattle.rules.specs.Sound.{listsWhole, soundness}
+use Rattle.rules.specs.Trace.{objectList}
+use Rattle.rules.specs.Decode.{Message}
+use Rattle.rules.specs.Answers.{Reading, judged, requireRoom, readValues, readObjects, Lists, read}
+use Rattle.rules.proofs.Tests.{both}
+use Rattle.rules.proofs.Demands.{passed}
+use Rattle.rules.proofs.Amounts.{NumbersHaveBytes, few-numbers}
+use Rattle.layout.proofs.Rows.{sound-lists, layout-step}
+use Rattle.layout.proofs.Keeping.{sound-bounded}
+use Rattle.listing.specs.Listing.{listsOf}
+
+-- ---- a sound table's numbers have a byte at least
+
+-- a row in use has a size, and a number's is its width;
+width-some : (t : TypeTable) → soundness t ≡ accepted tt → (row width : ℕ) → typeOf t row ≡ number width → ltb row (rowCount t) ≡ true → 1 ≤ width
+unfolding layoutAs
+width-some t sound row width is test =
+    let size : sizeOf t row ≡ width = ap (λ (l : Layout). l .size) (layout-step t row ∙ ap (layoutAs t (layoutBelow t row)) is) in
+    omega (arith, sound-bounded t sound row (ltb-true row (rowCount t) test) .some)
+
+-- a row past them all has no kind.
+whole-rows : (t : TypeTable) → listsWhole t ≡ true → length (t .rows) % 4 ≡ 0
+whole-rows t e =
+    let n = length (t .rows) in let m = length (t .members) in
+    let lists = both (eqb (n % 4) 0 && leb 4 n && leb n 1024 && eqb (m % 2) 0) (leb m 2048) e .0 in
+    let rows = both (eqb (n % 4) 0 && leb 4 n && leb n 1024) (eqb (m % 2) 0) lists .0 in
+    eqb-true (n % 4) 0 (both (eqb (n % 4) 0) (leb 4 n) (both (eqb (n % 4) 0 && leb 4 n) (leb n 1024) rows .0) .0)
+
+none-past : (t : TypeTable) → soundness t ≡ accepted tt → (row : ℕ) → rowCount t ≤ row → typeOf t row ≡ none
+unfolding typeOf
+none-past t sound row past =
+    let kind : kindAt t row ≡ 0 = List·getD-eq-default (t .rows) 0 (omega (arith, whole-rows t (sound-lists t sound))) in
+    rw kind
+
+numbers-have-bytes : (t : TypeTable) → soundness t ≡ accepted tt → NumbersHaveBytes t
+numbers-have-bytes t sound row width is = go (ltb row (rowCount t)) refl
+  where
+    go : (test : Bool) → ltb row (rowCount t) ≡ test → 1 ≤ width
+    go true used = width-some t sound row width is used
+    go false past =
+        let no-type = none-past t sound row (ltb-false row (rowCount t) past) in
+        let z : _≡_ {A = ℕ} 0 1 = cc in absurd (omega arith)
+
+-- ---- room that is enough
+
+-- The reader of both lists, from what was judged.
+abbrev readFrom : (answer : Answer Reading) (values-room objects-room : ℕ) → Answer Lists
+readFrom answer values-room objects-room =
+    andThen (andThen answer (λ reading. requireRoom (length (objectList (reading .trace))) objects-room (accepted (objectList (reading .trace))))) (λ objects.
+    andThen (andThen answer (λ reading. requireRoom (length (reading .values)) values-room (accepted (reading .values)))) (λ values. accepted (record { values = values; objects = objects })))
+
+module _ (m : Message) (root values-room objects-room : ℕ) (values-fit : length (m .bytes) + 4 ≤ values-room) (objects-fit : length (m .bytes) + 4 ≤ objects-room) where
+  enough-from : (answer : Answer Reading) → judged m root ≡ answer
+      → readFrom answer values-room objects-room ≡ andThen answer (λ reading. accepted (listsOf reading))
+  enough-from (refused f) is = refl
+  enough-from (accepted reading) is =
+      let few = few-numbers m root reading (numbers-have-bytes (m .table) (passed m root reading is .sound)) is in
+      let objects : leb (length (objectList (reading .trace))) objects-room ≡ true = le-leb (length (objectList (reading .trace))) objects-room (omega arith) in
+      let values : leb (length (reading .values)) values-room ≡ true = le-leb (length (reading .values)) values-room (omega arith) in
+      rw (objects, values)
+
+  pub enough : read m root values-room objects-room ≡ andThen (judged m root) (λ reading. accepted (listsOf reading))
+  unfolding read readObjects readValues
+  enough = enough-from (judged m root) refl

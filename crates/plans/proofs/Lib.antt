@@ -1,0 +1,4 @@
+pub mod Planning
+pub mod Plans
+pub mod ByPlan
+pub mod Rows

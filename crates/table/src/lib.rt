@@ -1,0 +1,70 @@
+// The numbers of a type table by name: a row's kind, a, b and c, a member's ordinal and row. What a list does not have is 0, so
+// any row and any member may be asked for.
+ghost use mathlib.Core.Path.{_≡_};
+ghost use Prim.Native.Nat.{_+_, _*_};
+ghost use lib.ListN.{getD};
+ghost use Rattle.rules.specs.TypeTable.{kindIn, aIn, bIn, cIn, ordinalIn, rowIn};
+
+pub fn kind_at(rows: &[u32], row: usize) -> u32
+    ensures { λ r. ⌜ r ≡ kindIn (now (rows .entry)) row ⌝ }
+{
+    cell(rows, row, 0)
+}
+
+pub fn a_at(rows: &[u32], row: usize) -> u32
+    ensures { λ r. ⌜ r ≡ aIn (now (rows .entry)) row ⌝ }
+{
+    cell(rows, row, 1)
+}
+
+pub fn b_at(rows: &[u32], row: usize) -> u32
+    ensures { λ r. ⌜ r ≡ bIn (now (rows .entry)) row ⌝ }
+{
+    cell(rows, row, 2)
+}
+
+pub fn c_at(rows: &[u32], row: usize) -> u32
+    ensures { λ r. ⌜ r ≡ cIn (now (rows .entry)) row ⌝ }
+{
+    cell(rows, row, 3)
+}
+
+pub fn ordinal_at(members: &[u32], member: usize) -> u32
+    ensures { λ r. ⌜ r ≡ ordinalIn (now (members .entry)) member ⌝ }
+{
+    member_cell(members, member, 0)
+}
+
+pub fn row_of(members: &[u32], member: usize) -> u32
+    ensures { λ r. ⌜ r ≡ rowIn (now (members .entry)) member ⌝ }
+{
+    member_cell(members, member, 1)
+}
+
+// A row is four numbers. A row so far past the end that its place could not be counted is met first.
+fn cell(rows: &[u32], row: usize, number: usize) -> u32
+    ensures { λ r. ⌜ r ≡ getD (now (rows .entry)) (row * 4 + number) 0 ⌝ }
+{
+    if rows.len() / 4 < row {
+        return 0;
+    }
+    let start = row * 4;
+    if rows.len() - start <= number {
+        return 0;
+    }
+    rows[start + number]
+}
+
+// A member is two.
+fn member_cell(members: &[u32], member: usize, number: usize) -> u32
+    ensures { λ r. ⌜ r ≡ getD (now (members .entry)) (member * 2 + number) 0 ⌝ }
+{
+    if members.len() / 2 < member {
+        return 0;
+    }
+    let start = member * 2;
+    if members.len() - start <= number {
+        return 0;
+    }
+    members[start + number]
+}

@@ -1,0 +1,11 @@
+pub mod ByKind
+pub mod Values
+pub mod OutOfLine
+pub mod Contents
+pub mod Numbers
+pub mod NoParts
+pub mod TableEnvelopes
+pub mod Rows
+pub mod Plans
+pub mod Turns
+pub mod OneMember

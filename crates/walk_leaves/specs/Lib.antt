@@ -1,0 +1,3 @@
+pub mod Doing
+pub mod Parts
+pub mod Planning

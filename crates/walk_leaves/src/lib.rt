@@ -1,0 +1,5 @@
+// The walk's lowest layer: the cursor, claims, and values that lead to nothing else.
+pub mod claims;
+pub mod cursor;
+pub mod planned;
+pub mod scalars;

@@ -1,0 +1,12 @@
+pub mod Tables
+pub mod Boxes
+pub mod Strings
+pub mod Counts
+pub mod Openings
+pub mod Levels
+pub mod Claiming
+pub mod Zeros
+pub mod Giving
+pub mod Payloads
+pub mod Unknown
+pub mod Unions

@@ -1,0 +1,3 @@
+pub mod Putting
+pub mod InLine
+pub mod Planning

@@ -1,0 +1,4 @@
+// The writer's lowest layer: the cursor, and values that lead to nothing else.
+pub mod cursor;
+pub mod planned;
+pub mod scalars;

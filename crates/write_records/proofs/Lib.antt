@@ -1,0 +1,12 @@
+pub mod Parts
+pub mod Claims
+pub mod Levels
+pub mod Openings
+pub mod Objects
+pub mod Boxes
+pub mod Counts
+pub mod Tables
+pub mod Sealing
+pub mod Texts
+pub mod UnknownContent
+pub mod Unions
