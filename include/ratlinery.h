@@ -139,17 +139,27 @@ uint32_t ratlinery_write(const uint32_t *rows, size_t rows_len, const uint32_t *
                          uint32_t root, const uint64_t *values, size_t values_len, uint8_t *out, size_t out_len,
                          uint64_t *answer, size_t answer_len);
 
-/* The transactional header at the start of a message. The body is the part of the message that the last two results name;
- * the places of a check of that body count from the body.
- * answer: place, transaction number, three flag bytes (the first one lowest), ordinal, start of the body, its length.
- * Refusals: 3; 6 at 0 under 16 bytes; 23; 24; 25; 20 at 16 if an epitaph (ordinal all ones) has more bytes. */
+/* The transactional header at the start of a message. The body is the part of the message that its start and its length
+ * name; the places of a check of that body count from the body. An epitaph, whose ordinal is all ones, has 24 bytes: the
+ * header, a status (4 bytes, signed), and four zero bytes.
+ * answer: place, transaction number, three flag bytes (the first one lowest), ordinal, start of the body, its length,
+ * status (sign-extended to 64 bits; 0 if the message is no epitaph).
+ * Refusals: 3; 6 at 0 under 16 bytes; 23; 24; 25; then, of an epitaph, 6 at 16 under 24 bytes, 7 at the first of bytes
+ * 20 to 23 that is not zero, 20 at 24 if there are more bytes. */
 uint32_t ratlinery_header_read(const uint8_t *message, size_t message_len, uint64_t *answer, size_t answer_len);
 
-/* Writes the 16 bytes of a header to the start of `out`.
+/* Writes the 16 bytes of a header to the start of `out`, those of an epitaph's header too, without its status.
  * answer: place, bytes written (16).
  * Refusals: 24; 25; 22 with 16. */
 uint32_t ratlinery_header_write(uint32_t transaction, uint8_t flag0, uint8_t flag1, uint8_t flag2, uint64_t ordinal,
                                 uint8_t *out, size_t out_len, uint64_t *answer, size_t answer_len);
+
+/* Writes the 24 bytes of a whole epitaph to the start of `out`: a header with transaction number 0 and an ordinal of all
+ * ones, the status, and four zero bytes.
+ * answer: place, bytes written (24).
+ * Refusals: 22 with 24. */
+uint32_t ratlinery_epitaph_write(uint8_t flag0, uint8_t flag1, uint8_t flag2, int32_t status, uint8_t *out,
+                                 size_t out_len, uint64_t *answer, size_t answer_len);
 
 #ifdef __cplusplus
 }

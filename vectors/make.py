@@ -7,7 +7,7 @@ usage: make.py                    write the four files
        make.py --line PROGRAM N   print the vector that line N of a program's stream is made from
 
 A line of the stream of `cases` is a case: the operation's number, its inputs, and the answer that it must give, all as
-decimal numbers. A list, and bytes too, stand as their length and then their numbers. A line of the stream of `roundtrip` is the
+decimal numbers. A list, and bytes too, stand as their length and then their numbers, a signed number as its pattern of 32 bits. A line of the stream of `roundtrip` is the
 message of a case of `check` or `read`: its inputs without rooms.
 """
 import pathlib
@@ -15,10 +15,10 @@ import sys
 
 HERE = pathlib.Path(__file__).resolve().parent
 CRATES = HERE.parent / "crates"
-FILES = ("text.txt", "base.txt", "conformance.txt", "document.txt", "circle.txt")
+FILES = ("text.txt", "base.txt", "conformance.txt", "document.txt", "circle.txt", "W-203.txt")
 
 # The operations that `cases` runs, in the order of their numbers, from 1 on.
-RUN = ("is_utf8", "sound", "layout", "header_read", "header_write", "check", "read", "write")
+RUN = ("is_utf8", "sound", "layout", "header_read", "header_write", "check", "read", "write", "epitaph_write")
 
 # The fields of each operation in the vector files: its inputs, and its answer.
 FIELDS = {
@@ -28,8 +28,9 @@ FIELDS = {
     "check": ("list list number bytes number", "number number"),
     "read": ("list list number bytes number room room", "number number list list"),
     "write": ("list list number list room", "number number number number bytes"),
-    "header_read": ("bytes", "number number number flags number number number"),
+    "header_read": ("bytes", "number number number flags number number number signed"),
     "header_write": ("number flags number room", "number number bytes"),
+    "epitaph_write": ("flags signed room", "number number bytes"),
 }
 
 # The operations whose messages `roundtrip` sends, and the inputs that a message is.
@@ -46,6 +47,7 @@ NUMBERS = {
     "number": lambda field: [int(field)],
     "list": lambda field: listed([] if field == "-" else [int(n) for n in field.split(",")]),
     "bytes": lambda field: listed([] if field == "-" else list(bytes.fromhex(field))),
+    "signed": lambda field: [int(field) % 2**32],
     "flags": lambda field: list(bytes.fromhex(field)),
     "room": lambda field: [2**64 - 1 if field == "-" else int(field)],
 }
@@ -67,8 +69,8 @@ def split(line):
     operation, *inputs = case.split()
     answer = answer.split()
     # conformance.txt leaves out where a header's body starts and ends.
-    if operation == "header_read" and len(answer) == 5:
-        answer += ["16", str(len(inputs[0]) // 2)] if answer[0] == "0" else ["0", "0"]
+    if operation == "header_read" and len(answer) == 6:
+        answer[5:5] = ["16", str(len(inputs[0]) // 2)] if answer[0] == "0" else ["0", "0"]
     return operation, inputs, answer
 
 

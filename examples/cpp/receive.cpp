@@ -1,4 +1,5 @@
-// Receives a message with its header: reads the header, checks the body and reads its values into a vector.
+// Receives a message with its header: reads the header, checks the body and reads its values into a vector. Then receives an
+// epitaph, whose header is read with its status.
 //
 //   rt staticlib ratlinery
 //   c++ -Iinclude examples/cpp/receive.cpp target/staticlib/libratlinery.a -o target/receive && target/receive
@@ -42,7 +43,7 @@ std::string name_of(const std::vector<std::uint64_t> &values) {
 
 int main() {
     std::vector<std::uint8_t> message(16);
-    std::array<std::uint64_t, 6> answer;
+    std::array<std::uint64_t, 7> answer;
     ratlinery_header_write(7, 2, 0, 0, 0x1234, message.data(), message.size(), answer.data(), answer.size());
 
     // The body: the string "pad", and a handle that is present.
@@ -59,14 +60,22 @@ int main() {
         return 1;
     std::cout << "transaction " << answer[1] << ", ordinal " << answer[3] << ", body of " << answer[5] << " bytes\n";
     const std::uint8_t *start = message.data() + answer[4];
-    std::cout << "name " << name_of(read_values(start, answer[5], handles)) << "\n";
+    const std::size_t length = answer[5];
+    std::cout << "name " << name_of(read_values(start, length, handles)) << "\n";
 
     // With too few handles the body is refused: 14, at the handle's word in the body.
     try {
-        read_values(start, answer[5], 0);
+        read_values(start, length, 0);
+        return 1;
     } catch (const Refused &refused) {
         std::cout << "without its handle: " << refused.what() << "\n";
-        return 0;
     }
-    return 1;
+
+    // An epitaph needs no type table: its status is the last result of the header reader.
+    std::array<std::uint8_t, 24> epitaph;
+    ratlinery_epitaph_write(2, 0, 0, -24, epitaph.data(), epitaph.size(), answer.data(), answer.size());
+    if (ratlinery_header_read(epitaph.data(), epitaph.size(), answer.data(), answer.size()) != RATLINERY_ACCEPTED)
+        return 1;
+    std::cout << "epitaph with status " << static_cast<std::int64_t>(answer[6]) << "\n";
+    return 0;
 }

@@ -18,7 +18,7 @@ const OUTPUT_ROOM: usize = 1024;
 const NUMBERS_ROOM: usize = 256;
 
 // Operations are numbered from 1 on; as 0 counts a case that names none of them.
-const OPERATIONS: usize = 9;
+const OPERATIONS: usize = 10;
 
 const FAILURES_SHOWN: usize = 8;
 
@@ -116,6 +116,7 @@ fn write_name(operation: usize) -> bool {
         6 => io::write_all(1, b"check"),
         7 => io::write_all(1, b"read"),
         8 => io::write_all(1, b"write"),
+        9 => io::write_all(1, b"epitaph_write"),
         _ => io::write_all(1, b"no operation"),
     }
 }
@@ -131,6 +132,7 @@ fn passes(operation: usize, case: &[u64]) -> bool {
         6 => check(numbers),
         7 => read(numbers),
         8 => write(numbers),
+        9 => epitaph_write(numbers),
         _ => false,
     }
 }
@@ -380,7 +382,8 @@ fn objects_are(objects: &[u32; NUMBERS_ROOM], given: &[u64]) -> bool {
     values_are(&wide, given)
 }
 
-// The message; number, place, transaction number, three flags, ordinal, and where the body starts and ends.
+// The message; number, place, transaction number, three flags, ordinal, where the body starts and ends, and the status, as a
+// pattern of 32 bits.
 fn header_read(case: &[u64]) -> bool {
     let numbers = stream::list(case, 0);
     let mut message = message_room();
@@ -389,7 +392,7 @@ fn header_read(case: &[u64]) -> bool {
     let bytes = &message[..count];
     let length = header::body(bytes).len() as u64;
     match header::read_header(bytes) {
-        header::HeaderAnswer::Accepted(h) => stream::same(
+        header::HeaderAnswer::Accepted { header: h, status } => stream::same(
             answer,
             &[
                 0,
@@ -401,6 +404,7 @@ fn header_read(case: &[u64]) -> bool {
                 h.ordinal,
                 16,
                 16 + length,
+                words::pattern32(status) as u64,
             ],
         ),
         header::HeaderAnswer::Refused(f) => {
@@ -416,6 +420,7 @@ fn header_read(case: &[u64]) -> bool {
                     0,
                     0,
                     length,
+                    0,
                 ],
             )
         }
@@ -453,6 +458,26 @@ fn write_within(h: header::Header, output: &mut [u8], room: u64) -> header::Head
     }
     let lent = room as usize;
     header::write_header(h, &mut output[..lent])
+}
+
+// Three flags, the status and the room; number, place, and the bytes that were written, as for a header.
+fn epitaph_write(case: &[u64]) -> bool {
+    let flag0 = (words::value_at(case, 0) % 256) as u8;
+    let flag1 = (words::value_at(case, 1) % 256) as u8;
+    let flag2 = (words::value_at(case, 2) % 256) as u8;
+    let status = words::signed32((words::value_at(case, 3) % 4294967296) as u32);
+    let room = room_of(words::value_at(case, 4), OUTPUT_ROOM);
+    let answer = stream::first(stream::rest(case, 5), 2);
+    let bytes = stream::list(case, 7);
+    let mut output = [255u8; OUTPUT_ROOM];
+    match header::write_epitaph(flag0, flag1, flag2, status, &mut output[..room]) {
+        header::HeaderWritten::Bytes(count) => stream::same(answer, &[0, 0])
+            & wrote(&output, bytes, count),
+        header::HeaderWritten::Refused(f) => {
+            stream::same(answer, &[f.number as u64, rules::place_number(f)])
+                & wrote(&output, bytes, 0)
+        }
+    }
 }
 
 fn wide(byte: u8) -> u64 {

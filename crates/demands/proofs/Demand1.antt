@@ -77,7 +77,7 @@ past-stored (x ∷ list) lent at count h = past-stored list (set lent at x) (suc
 -- ---- the demand
 
 pub demand1 : Demand1
-unfolding HeaderRules.body listing
+unfolding HeaderRules.body HeaderRules.status listing
 demand1 = record {
   check = λ {rows} {members} {message} {root} {handles} r p. refuses-same _ _ (p .answer);
   readValues = λ {rows} {members} {message} {values} {values′} {root} {handles} r p.
@@ -99,10 +99,13 @@ demand1 = record {
       );
   prepare = λ r p. (refuses-same _ _ (p .answer), λ f q. let e = sym (p .answer) ∙ q in (p .sizes-list ∙ rw e, p .alignments-list ∙ rw e));
   layoutOf = λ r p. refuses-same _ _ (p .answer);
-  readHeader = λ r p. refuses-same _ _ (p .answer);
+  readHeader = λ r p. (refuses-same _ _ (p .answer), λ f e. p .status ∙ rw e);
   body = λ p f e. (p .bytes ∙ rw e, p .start ∙ rw e);
   writeHeader = λ {out} {out′} header r p.
       let write = HeaderRules.writeHeader (Meaning.headerOf header) (length out) in
+      (refuses-told (Meaning.writtenOf r) write length (p .answer), keeps (Meaning.writtenOf r) write out out′ (p .answer) (p .output));
+  writeEpitaph = λ {out} {out′} flag0 flag1 flag2 status r p.
+      let write = HeaderRules.writeEpitaph flag0 flag1 flag2 status (length out) in
       (refuses-told (Meaning.writtenOf r) write length (p .answer), keeps (Meaning.writtenOf r) write out out′ (p .answer) (p .output));
   listed = λ {message} {out} {out′} {count} p.
       (λ f e. listing-refused (length message) e, rw (p .output) (past-stored (listing message) out 0 count (omega (arith, p .answer))));

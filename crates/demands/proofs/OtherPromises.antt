@@ -17,6 +17,8 @@ use Rattle.header.proofs.body.Kinds as body-kinds
 use Rattle.header.proofs.body.Reads as body
 use Rattle.header.proofs.write_header.Kinds as write-kinds
 use Rattle.header.proofs.write_header.Reads as write
+use Rattle.header.proofs.write_epitaph.Kinds as epitaph-kinds
+use Rattle.header.proofs.write_epitaph.Reads as epitaph
 use Rattle.text.proofs.is_utf8.Kinds as bytes-kinds
 use Rattle.text.proofs.is_utf8.Reads as bytes
 use Rattle.text.proofs.are_utf8.Kinds as numbers-kinds
@@ -25,7 +27,7 @@ use Rattle.listing.proofs.listing.Kinds as listing-kinds
 use Rattle.listing.proofs.listing.Reads as listing
 use Rattle.demands.proofs.round_trip.Kinds as trip-kinds
 use Rattle.demands.proofs.round_trip.Reads as trip
-use Rattle.demands.specs.OtherPromises.{Prepares, LaysOut, AllowsRoot, ReadsHeader, HandsBody, WritesHeader, IsText, AreText, Lists, RoundTrips}
+use Rattle.demands.specs.OtherPromises.{Prepares, LaysOut, AllowsRoot, ReadsHeader, HandsBody, WritesHeader, WritesEpitaph, IsText, AreText, Lists, RoundTrips}
 
 module _ (κs : Lfts 4) (a : Dens κs prepare-kinds.ps) where
   pub prepare-asks-nothing : prepare.Asked κs a
@@ -57,7 +59,7 @@ module _ (κs : Lfts 1) (a : Dens κs header-kinds.ps) where
 
   pub read-header-promises : (r : resT header-kinds.r κs .Denot) (s : AtExit (endedOf 1 header-kinds.ps header-kinds.r) κs) → header.Learnt κs a r s
       → ReadsHeader (now (a .0)) r
-  read-header-promises r s l = record { answer = l .0; numbers = l .1 }
+  read-header-promises r s l = record { answer = l .0; numbers = l .1 .0; status = l .1 .1 }
 
 module _ (κs : Lfts 1) (a : Dens κs body-kinds.ps) where
   pub body-asks-nothing : body.Asked κs a
@@ -74,6 +76,14 @@ module _ (κs : Lfts 1) (a : Dens κs write-kinds.ps) where
   pub write-header-promises : (r : resT write-kinds.r κs .Denot) (s : AtExit (endedOf 1 write-kinds.ps write-kinds.r) κs) → write.Learnt κs a r s
       → WritesHeader (a .0) (now (a .1 .0)) (now (s .1 .0)) r
   write-header-promises r s l = record { answer = l .0; output = l .1 .0; numbers = l .1 .1 }
+
+module _ (κs : Lfts 1) (a : Dens κs epitaph-kinds.ps) where
+  pub write-epitaph-asks-nothing : epitaph.Asked κs a
+  write-epitaph-asks-nothing = tt
+
+  pub write-epitaph-promises : (r : resT epitaph-kinds.r κs .Denot) (s : AtExit (endedOf 1 epitaph-kinds.ps epitaph-kinds.r) κs) → epitaph.Learnt κs a r s
+      → WritesEpitaph (a .0) (a .1 .0) (a .1 .1 .0) (a .1 .1 .1 .0) (now (a .1 .1 .1 .1 .0)) (now (s .1 .1 .1 .1 .0)) r
+  write-epitaph-promises r s l = record { answer = l .0; output = l .1 .0; numbers = l .1 .1 }
 
 module _ (κs : Lfts 1) (a : Dens κs bytes-kinds.ps) where
   pub is-utf8-asks-nothing : bytes.Asked κs a

@@ -2,10 +2,11 @@
 -- to check. A refusal gives the number and place that document 01 fixes and leaves every lent buffer as it was." It is stated of
 -- every function that a host calls, as its promise stands (Promises.antt, OtherPromises.antt). That none asks anything of its caller:
 -- proofs/Promises.antt and proofs/OtherPromises.antt. The face to C: crate `ratlinery`. The proof: proofs/Demand1.antt.
-use mathlib.Core.List.{List, []}
+use mathlib.Core.List.{List, [], _∷_}
 use mathlib.Core.Logic.{_↔_}
 use mathlib.Core.Path.{_≡_}
 use Prim.Native.Nat.{ℕ}
+use lib.IntN.{ℤ, pos}
 use lib.ListN.{length, drop}
 use Rattle.rules.specs.declared.Fault.{Fault}
 use Rattle.rules.specs.Refusals.{placeNumber, Answer, accepted, refused, andThen}
@@ -32,7 +33,7 @@ use Rattle.demands.specs.declared.Trip.{Trip}
 use Rattle.demands.specs.declared.Trip.the-variants.{Refused}
 use Rattle.demands.specs.Promises.{Checks, ReadsValues, ReadsObjects, Reads, Writes}
 use Rattle.demands.specs.Trips.{trip, tripValues}
-use Rattle.demands.specs.OtherPromises.{Prepares, LaysOut, ReadsHeader, HandsBody, WritesHeader, Lists, RoundTrips}
+use Rattle.demands.specs.OtherPromises.{Prepares, LaysOut, ReadsHeader, HandsBody, WritesHeader, WritesEpitaph, Lists, RoundTrips}
 
 -- A refusal that is answered is the one that the rules give, number and place, and theirs is answered.
 abbrev pub Refuses : {A B : Type 0} → (answered : Answer A) (ruled : Answer B) → Type 0
@@ -60,11 +61,15 @@ pub record Demand1 : Type 0 where
       → Refuses (Layout.verdictOf r) (soundness (typeTable rows members))
       × ((f : Fault) → Layout.verdictOf r ≡ refused f → (sizes′ ≡ sizes) × (alignments′ ≡ alignments))
   pub layoutOf : {rows members : List ℕ} {row : ℕ} (r : LayoutAnswer) → LaysOut rows members row r → Refuses (Layout.answerOf r) (Rules.layoutAnswer (typeTable rows members) row)
-  pub readHeader : {message : List ℕ} (r : HeaderAnswer) → ReadsHeader message r → Refuses (Meaning.answerOf r) (HeaderRules.readHeader message)
+  -- Where the header is refused, the status is 0.
+  pub readHeader : {message : List ℕ} (r : HeaderAnswer) → ReadsHeader message r
+      → Refuses (Meaning.answerOf r) (HeaderRules.readHeader message) × ((f : Fault) → HeaderRules.readHeader message ≡ refused f → Meaning.statusOf r ≡ pos 0)
   -- Where the header is refused, the part handed back is the empty one at the message's start.
   pub body : {message body : List ℕ} {at body-at : ℕ × ℕ} → HandsBody message at body body-at → (f : Fault) → HeaderRules.readHeader message ≡ refused f → (body ≡ []) × (body-at ≡ at)
   pub writeHeader : {out out′ : List ℕ} (header : Header) (r : HeaderWritten) → WritesHeader header out out′ r
       → Refuses (Meaning.writtenOf r) (HeaderRules.writeHeader (Meaning.headerOf header) (length out)) × Keeps (Meaning.writtenOf r) out out′
+  pub writeEpitaph : {out out′ : List ℕ} (flag0 flag1 flag2 : ℕ) (status : ℤ) (r : HeaderWritten) → WritesEpitaph flag0 flag1 flag2 status out out′ r
+      → Refuses (Meaning.writtenOf r) (HeaderRules.writeEpitaph flag0 flag1 flag2 status (length out)) × Keeps (Meaning.writtenOf r) out out′
   -- A listing tells a refusal, in its two lines, and nothing past it changes.
   pub listed : {message out out′ : List ℕ} {count : ℕ} → Lists message out out′ count
       → ((f : Fault) → answered message ≡ refused f → listing message ≡ head (f .number) (placeNumber (f .place))) × (drop count out′ ≡ drop count out)

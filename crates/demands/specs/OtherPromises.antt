@@ -1,9 +1,10 @@
 -- What layout calculator, header, text, listing and round trip promise, each as its `ensures` says it: of what is handed in, the lists lent
 -- before and after, and the answer. That these are the functions' own promises: proofs/OtherPromises.antt.
 use mathlib.Core.Bool.{Bool}
-use mathlib.Core.List.{List}
+use mathlib.Core.List.{List, [], _∷_}
 use mathlib.Core.Path.{_≡_}
 use Prim.Native.Nat.{ℕ}
+use lib.IntN.{ℤ}
 use lib.ListN.{length}
 use lib.Seq.{sets}
 use Rattle.rules.specs.Refusals.{lentAfter}
@@ -45,6 +46,7 @@ pub record AllowsRoot (rows : List ℕ) (root : ℕ) (r : Bool) : Type 0 where
 pub record ReadsHeader (message : List ℕ) (r : HeaderAnswer) : Type 0 where
   pub answer : Meaning.answerOf r ≡ Rules.readHeader message
   pub numbers : Meaning.answerNumbers r ≡ numbersOf 5 Rules.fields (Rules.readHeader message)
+  pub status : Meaning.statusOf r ≡ Rules.status message
 
 -- header::body: the part that is handed back, and by block and offset where message and part start
 pub record HandsBody (message : List ℕ) (at : ℕ × ℕ) (body : List ℕ) (body-at : ℕ × ℕ) : Type 0 where
@@ -56,6 +58,12 @@ pub record WritesHeader (header : Header) (out out′ : List ℕ) (r : HeaderWri
   pub answer : Meaning.writtenOf r ≡ Meaning.byteCount (Rules.writeHeader (Meaning.headerOf header) (length out))
   pub output : out′ ≡ lentAfter (Rules.writeHeader (Meaning.headerOf header) (length out)) out
   pub numbers : Meaning.writtenNumbers r ≡ numbersOf 1 counted (Rules.writeHeader (Meaning.headerOf header) (length out))
+
+-- header::write_epitaph
+pub record WritesEpitaph (flag0 flag1 flag2 : ℕ) (status : ℤ) (out out′ : List ℕ) (r : HeaderWritten) : Type 0 where
+  pub answer : Meaning.writtenOf r ≡ Meaning.byteCount (Rules.writeEpitaph flag0 flag1 flag2 status (length out))
+  pub output : out′ ≡ lentAfter (Rules.writeEpitaph flag0 flag1 flag2 status (length out)) out
+  pub numbers : Meaning.writtenNumbers r ≡ numbersOf 1 counted (Rules.writeEpitaph flag0 flag1 flag2 status (length out))
 
 -- text::is_utf8
 pub record IsText (bytes : List ℕ) (at count : ℕ) (r : Bool) : Type 0 where

@@ -15,14 +15,10 @@ use Rattle.header.specs.declared.HeaderWritten.{HeaderWritten}
 use Rattle.header.specs.declared.HeaderWritten.the-variants as Write
 use Rattle.header.specs.Meaning.{answerOf, answerNumbers, byteCount, writtenOf, writtenNumbers}
 
-answer-numbers : (r : HeaderAnswer) {answer : Answer Rules.Header} → answerOf r ≡ answer → answerNumbers r ≡ numbersOf 5 Rules.fields answer
+pub answer-numbers : (r : HeaderAnswer) {answer : Answer Rules.Header} → answerOf r ≡ answer → answerNumbers r ≡ numbersOf 5 Rules.fields answer
 unfolding zeros
-answer-numbers (Read.Accepted h) e = ap (numbersOf 5 Rules.fields) e
+answer-numbers (Read.Accepted h s) e = ap (numbersOf 5 Rules.fields) e
 answer-numbers (Read.Refused f) e = ap (numbersOf 5 Rules.fields) e
-
--- What is promised of the reader's answer.
-pub answered : (r : HeaderAnswer) {answer : Answer Rules.Header} → answerOf r ≡ answer → (answerOf r ≡ answer) × (answerNumbers r ≡ numbersOf 5 Rules.fields answer)
-answered r e = (e, answer-numbers r e)
 
 pub written-numbers : (r : HeaderWritten) (answer : Answer (List ℕ)) → writtenOf r ≡ byteCount answer → writtenNumbers r ≡ numbersOf 1 counted answer
 unfolding zeros

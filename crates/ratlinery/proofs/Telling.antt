@@ -55,9 +55,13 @@ two-stored a x y p q = q ∙ ap (λ (l : List ℕ). set l 1 y) p
 pub three-stored : (a : List ℕ) (x y z : ℕ) {b d e : List ℕ} → b ≡ set a 0 x → d ≡ set b 1 y → e ≡ set d 2 z → e ≡ sets a 0 (x ∷ y ∷ z ∷ [])
 three-stored a x y z p q r = r ∙ ap (λ (l : List ℕ). set l 2 z) (two-stored a x y p q)
 
-pub six-stored : (a : List ℕ) (u v w x y z : ℕ) {b d e f g h : List ℕ} → b ≡ set a 0 u → d ≡ set b 1 v → e ≡ set d 2 w → f ≡ set e 3 x → g ≡ set f 4 y → h ≡ set g 5 z
+six-stored : (a : List ℕ) (u v w x y z : ℕ) {b d e f g h : List ℕ} → b ≡ set a 0 u → d ≡ set b 1 v → e ≡ set d 2 w → f ≡ set e 3 x → g ≡ set f 4 y → h ≡ set g 5 z
     → h ≡ sets a 0 (u ∷ v ∷ w ∷ x ∷ y ∷ z ∷ [])
 six-stored a u v w x y z p q r s t k = k ∙ ap (λ (l : List ℕ). set l 5 z) (t ∙ ap (λ (l : List ℕ). set l 4 y) (s ∙ ap (λ (l : List ℕ). set l 3 x) (three-stored a u v w p q r)))
+
+pub seven-stored : (a : List ℕ) (t u v w x y z : ℕ) {b d e f g h i : List ℕ} → b ≡ set a 0 t → d ≡ set b 1 u → e ≡ set d 2 v → f ≡ set e 3 w → g ≡ set f 4 x → h ≡ set g 5 y
+    → i ≡ set h 6 z → i ≡ sets a 0 (t ∷ u ∷ v ∷ w ∷ x ∷ y ∷ z ∷ [])
+seven-stored a t u v w x y z p q r s k l m = m ∙ ap (λ (list : List ℕ). set list 6 z) (six-stored a t u v w x y p q r s k l)
 
 -- ---- a refusal: zeros after its place
 

@@ -2,8 +2,10 @@
 -- Assumes nothing.
 use mathlib.Core.List.{List, [], _∷_}
 use Prim.Native.Nat.{ℕ, _+_, _-_, _*_}
+use lib.IntN.{ℤ, pos, negsuc}
 use lib.ListN.{getD}
 use Rattle.rules.specs.Refusals.{Answer}
+use Rattle.rules.specs.Bytes.{ones64}
 use Rattle.rules.specs.Answers.{numbersOf}
 use Rattle.rules.specs.Header.{Header}
 
@@ -16,9 +18,14 @@ one n = n ∷ []
 
 -- A header from its fields.
 abbrev pub header : (transaction flag0 flag1 flag2 ordinal : ℕ) → Header
-header transaction flag0 flag1 flag2 ordinal = record { transaction = transaction; flags = flag0 ∷ flag1 ∷ flag2 ∷ []; ordinal = ordinal }
+header transaction flag0 flag1 flag2 ordinal = record { transaction = transaction; flag0 = flag0; flag1 = flag1; flag2 = flag2; ordinal = ordinal }
 
--- Transaction, flags with the first byte lowest, ordinal, where the body starts and how long it is.
-abbrev pub headed : (total : ℕ) → Header → List ℕ
-headed total h =
-    h .transaction ∷ (getD (h .flags) 0 0 + getD (h .flags) 1 0 * 256 + getD (h .flags) 2 0 * 65536) ∷ h .ordinal ∷ 16 ∷ (total - 16) ∷ []
+-- A signed number as a pattern of 64 bits.
+abbrev pub pattern64 : ℤ → ℕ
+pattern64 (pos n) = n
+pattern64 (negsuc n) = ones64 - n
+
+-- Transaction, flags with the first byte lowest, ordinal, where the body starts and how long it is, status.
+abbrev pub headed : (total : ℕ) (status : ℤ) → Header → List ℕ
+headed total status h =
+    h .transaction ∷ (h .flag0 + h .flag1 * 256 + h .flag2 * 65536) ∷ h .ordinal ∷ 16 ∷ (total - 16) ∷ pattern64 status ∷ []

@@ -1,7 +1,7 @@
 // Ratlinery for C, C++ and Rust: include/ratlinery.h says what each function does. Each returns the number of the refusal, 0
 // when accepted, and stores the place and its results into `answer`, as far as that has room.
 ghost use mathlib.Core.Path.{_≡_};
-ghost use mathlib.Core.List.{_∷_};
+ghost use mathlib.Core.List.{[], _∷_};
 ghost use Prim.Native.Nat.{_≤_};
 ghost use lib.ListN.{length};
 ghost use lib.Seq.{sets};
@@ -13,7 +13,8 @@ ghost use Rattle.rules.specs.Answers.{nothing, laid, counted, bothCounted, size
 ghost use Rattle.rules.specs.Header as Headers;
 ghost use Rattle.walk_leaves.specs.Doing as Doing;
 ghost use Rattle.reader.specs.Answers.{givenOf, valuesIn, objectsIn};
-ghost use Rattle.ratlinery.specs.Face.{told, one, header, headed};
+ghost use Rattle.header.specs.Meaning.{writtenOf};
+ghost use Rattle.ratlinery.specs.Face.{told, one, header, headed, pattern64};
 use header::Header;
 use header::HeaderAnswer;
 use header::HeaderWritten;
@@ -187,14 +188,25 @@ pub extern "C" fn ratlinery_write(
     }
 }
 
+// A signed number as a pattern of 64 bits.
+fn extended(number: i32) -> u64
+    ensures { λ r. ⌜ r ≡ pattern64 number ⌝ }
+{
+    let pattern = words::pattern32(number);
+    if pattern < 0x80000000 {
+        return pattern as u64;
+    }
+    0xFFFFFFFF00000000 + pattern as u64
+}
+
 #[no_mangle]
 pub extern "C" fn ratlinery_header_read(message: &[u8], answer: &mut [u64]) -> u32
     ensures number { λ r. ⌜ r ≡ number (Headers.readHeader (now (message .entry))) ⌝ }
-    ensures answer { λ _. ⌜ now (answer .exit) ≡ sets (now (answer .entry)) 0 (told 5 (headed (length (now (message .entry)))) (Headers.readHeader (now (message .entry)))) ⌝ }
+    ensures answer { λ _. ⌜ now (answer .exit) ≡ sets (now (answer .entry)) 0 (told 6 (headed (length (now (message .entry))) (Headers.status (now (message .entry)))) (Headers.readHeader (now (message .entry)))) ⌝ }
 {
     match header::read_header(message) {
-        HeaderAnswer::Refused(f) => refused(f, 5, answer),
-        HeaderAnswer::Accepted(h) => {
+        HeaderAnswer::Refused(f) => refused(f, 6, answer),
+        HeaderAnswer::Accepted { header: h, status } => {
             words::put_value(answer, 0, 0);
             words::put_value(answer, 1, h.transaction as u64);
             words::put_value(
@@ -205,6 +217,22 @@ pub extern "C" fn ratlinery_header_read(message: &[u8], answer: &mut [u64]) -> u
             words::put_value(answer, 3, h.ordinal);
             words::put_value(answer, 4, 16);
             words::put_value(answer, 5, (message.len() - 16) as u64);
+            words::put_value(answer, 6, extended(status));
+            0
+        }
+    }
+}
+
+// What is told of a header or an epitaph that is written.
+fn written(written: HeaderWritten, answer: &mut [u64]) -> u32
+    ensures number { λ r. ⌜ r ≡ number (writtenOf written) ⌝ }
+    ensures answer { λ _. ⌜ now (answer .exit) ≡ sets (now (answer .entry)) 0 (told 1 one (writtenOf written)) ⌝ }
+{
+    match written {
+        HeaderWritten::Refused(f) => refused(f, 1, answer),
+        HeaderWritten::Bytes(count) => {
+            words::put_value(answer, 0, 0);
+            words::put_value(answer, 1, count as u64);
             0
         }
     }
@@ -231,12 +259,24 @@ pub extern "C" fn ratlinery_header_write(
         flag2,
         ordinal,
     };
-    match header::write_header(h, out) {
-        HeaderWritten::Refused(f) => refused(f, 1, answer),
-        HeaderWritten::Bytes(count) => {
-            words::put_value(answer, 0, 0);
-            words::put_value(answer, 1, count as u64);
-            0
-        }
-    }
+    written(header::write_header(h, out), answer)
+}
+
+#[no_mangle]
+pub extern "C" fn ratlinery_epitaph_write(
+    flag0: u8,
+    flag1: u8,
+    flag2: u8,
+    status: i32,
+    out: &mut [u8],
+    answer: &mut [u64],
+) -> u32
+    ensures number { λ r. ⌜ r ≡ number (Headers.writeEpitaph flag0 flag1 flag2 status (length (now (out .entry)))) ⌝ }
+    ensures out { λ _. ⌜ now (out .exit) ≡ lentAfter (Headers.writeEpitaph flag0 flag1 flag2 status (length (now (out .entry)))) (now (out .entry)) ⌝ }
+    ensures answer { λ _. ⌜ now (answer .exit) ≡ sets (now (answer .entry)) 0 (told 1 counted (Headers.writeEpitaph flag0 flag1 flag2 status (length (now (out .entry))))) ⌝ }
+{
+    written(
+        header::write_epitaph(flag0, flag1, flag2, status, out),
+        answer,
+    )
 }

@@ -56,7 +56,7 @@ bytesOf-length zero v = refl
 bytesOf-length (suc k) v = ap suc (bytesOf-length k (v / 256))
 
 -- A number below 256 ^ k is had back from its k bytes,
-littleEndian-bytesOf : (k v : ℕ) → v < 256 ^ k → littleEndian (bytesOf k v) ≡ v
+pub littleEndian-bytesOf : (k v : ℕ) → v < 256 ^ k → littleEndian (bytesOf k v) ≡ v
 unfolding littleEndian bytesOf
 littleEndian-bytesOf zero v h = omega arith
 littleEndian-bytesOf (suc k) v h =

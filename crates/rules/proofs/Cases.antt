@@ -1,6 +1,6 @@
 -- Document 01's cases P1 to P12, and its slips, each computed over the whole table.
 use mathlib.Core.Path.{refl}
-use Rattle.rules.specs.Bytes.{littleEndian, bytesOf, part, word, leadingZeros, roundUp, padded}
+use Rattle.rules.specs.Bytes.{littleEndian, bytesOf, part, word, zeros, leadingZeros, roundUp, padded}
 use Rattle.rules.specs.TypeTable.{envelopeSize, typeOf, memberRows, contentOf, below}
 use Rattle.rules.specs.Sizes.{largestAlignment, fieldsFrom, fieldsOf, fieldsSize, structSize, layoutAs, layoutBelow, layoutOf}
 use Rattle.rules.specs.Sound.{structMembers, risingMembers, rowFits, rowSound, rowsSound, soundness, rootAllowed}
@@ -11,7 +11,8 @@ use Rattle.rules.specs.Records.{readNumber, presence, readPresence, read
 use Rattle.rules.specs.Envelope.{decodeWord, byteNumbered, flagged, unknownEnvelope, contentOfEightBytes, decodeContent}
 use Rattle.rules.specs.Walk as W
 use Rattle.rules.specs.Answers.{walk, judged, check, readValues, readObjects, read}
-use Rattle.rules.specs.Cases.{CasesHold, SlipsShow}
+use Rattle.rules.specs.Header.{readHeader}
+use Rattle.rules.specs.Cases.{CasesHold, SlipsShow, EpitaphCasesHold}
 
 pub cases-hold : CasesHold
 unfolding littleEndian part word leadingZeros roundUp padded envelopeSize typeOf memberRows contentOf below largestAlignment fieldsFrom fieldsOf fieldsSize structSize layoutAs layoutBelow layoutOf structMembers risingMembers rowFits rowSound rowsSound soundness rootAllowed follows isUtf8 objectList D.sequence D.elements D.recordThen D.checked D.fill D.claim D.takeHandles D.optionalEnvelope D.lastPresent D.zeroEnvelope D.presentEnvelope readNumber presence readPresence readCount readTable decodeWord byteNumbered flagged unknownEnvelope contentOfEightBytes decodeContent W.fields W.structFields W.decodeAs W.decodeBelow W.decodeRow W.levels walk judged check readValues readObjects read
@@ -20,3 +21,7 @@ cases-hold = refl
 pub slips-show : SlipsShow
 unfolding bytesOf littleEndian part word leadingZeros roundUp padded envelopeSize typeOf memberRows contentOf below largestAlignment fieldsFrom fieldsOf fieldsSize structSize layoutAs layoutBelow layoutOf structMembers risingMembers rowFits rowSound rowsSound soundness rootAllowed follows isUtf8 objectList D.sequence D.elements D.recordThen D.checked D.fill D.claim D.takeHandles D.optionalEnvelope D.lastPresent D.zeroEnvelope D.presentEnvelope readNumber presence readPresence readCount readTable decodeWord byteNumbered flagged unknownEnvelope contentOfEightBytes decodeContent W.fields W.structFields W.decodeAs W.decodeBelow W.decodeRow W.levels walk judged check readValues readObjects read
 slips-show = refl
+
+pub epitaph-cases-hold : EpitaphCasesHold
+unfolding littleEndian bytesOf part word zeros leadingZeros readHeader
+epitaph-cases-hold = (refl, refl, refl, refl, refl)

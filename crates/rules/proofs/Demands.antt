@@ -38,7 +38,7 @@ use Rattle.rules.proofs.WalkEvents.{walk-true}
 refused-not-accepted : {A : Type 0} {f : Fault} {a : A} → refused f ≡ accepted a → ⊥
 refused-not-accepted e = let z : _≡_ {A = ℕ} 0 1 = cc in omega arith
 
-require-accepted : {A : Type 0} (b : Bool) (f : Fault) (r : Answer A) {a : A} → require b f r ≡ accepted a → (b ≡ true) × (r ≡ accepted a)
+pub require-accepted : {A : Type 0} (b : Bool) (f : Fault) (r : Answer A) {a : A} → require b f r ≡ accepted a → (b ≡ true) × (r ≡ accepted a)
 require-accepted true f r e = (refl, e)
 require-accepted false f r e = absurd (refused-not-accepted e)
 
@@ -56,7 +56,7 @@ part-whole : (bytes : List ℕ) → part bytes 0 (length bytes) ≡ bytes
 unfolding part
 part-whole bytes = take-length bytes
 
-stands-whole : (bytes xs : List ℕ) → StandsAt bytes 0 xs → length bytes ≡ 0 + length xs → xs ≡ bytes
+pub stands-whole : (bytes xs : List ℕ) → StandsAt bytes 0 xs → length bytes ≡ 0 + length xs → xs ≡ bytes
 stands-whole bytes xs h e =
     let l : length xs ≡ length bytes = omega arith in
     sym (h .same) ∙ ap (part bytes 0) l ∙ part-whole bytes

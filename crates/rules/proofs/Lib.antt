@@ -17,3 +17,4 @@ pub mod Rooms
 pub mod Numbers
 pub mod Edition
 pub mod Amounts
+pub mod Header

@@ -1,8 +1,11 @@
--- Bytes: little-endian words, zero fill, rounding up.
+-- Bytes: little-endian words, signed numbers, zero fill, rounding up.
 -- Assumes nothing.
 use mathlib.Core.List.{List, [], _∷_}
 use Prim.Native.Nat.{ℕ, zero, suc, _+_, _-_, _*_, _/_, _%_, _<_}
+use lib.Dec.{ltb}
+use lib.IntN.{ℤ, pos, negsuc}
 use lib.ListN.{take, drop}
+use Rattle.rules.specs.Refusals.{if_then_else_}
 
 -- Bytes are numbers below 256.
 unfoldable pub Octets : List ℕ → Type 0
@@ -32,6 +35,18 @@ ones32 = 4294967295
 
 abbrev pub ones64 : ℕ
 ones64 = 18446744073709551615
+
+-- A signed number of 32 bits, its pattern, and the number that a pattern stands for.
+abbrev pub Fits32 : ℤ → Type 0
+Fits32 (pos n) = n < 0x80000000
+Fits32 (negsuc n) = n < 0x80000000
+
+abbrev pub pattern32 : ℤ → ℕ
+pattern32 (pos n) = n
+pattern32 (negsuc n) = ones32 - n
+
+abbrev pub signed32 : (pattern : ℕ) → ℤ
+signed32 pattern = if ltb pattern 0x80000000 then pos pattern else negsuc (ones32 - pattern)
 
 unfoldable pub zeros : ℕ → List ℕ
 zeros zero = []

@@ -2,11 +2,14 @@
 use mathlib.Core.Path.{_≡_}
 use mathlib.Core.List.{List, [], _∷_, _++_, map}
 use Prim.Native.Nat.{ℕ, zero, suc, _+_, _-_, _*_, _/_}
-use lib.ListN.{length, set, replicate}
-use Rattle.rules.specs.Refusals.{Answer, accepted, refused, number, place}
+use lib.IntN.{negsuc}
+use lib.ListN.{length, set, replicate, take}
+use Rattle.rules.specs.declared.Place.the-variants.{Byte}
+use Rattle.rules.specs.Refusals.{fault, objectDoesNotFit, fillNotZero, bytesLeft, Answer, accepted, refused, number, place}
 use Rattle.rules.specs.Bytes.{bytesOf}
 use Rattle.rules.specs.TypeTable.{TypeTable, typeTable}
 use Rattle.rules.specs.Answers.{check, readObjects, Lists, read}
+use Rattle.rules.specs.Header.{readHeader, epitaphBytes}
 
 -- A message under a table and root, and what the checker answers; or that it is accepted, so many objects in so many bytes;
 -- or what the reader hands back.
@@ -155,3 +158,17 @@ slips =
 
 abbrev pub SlipsShow : Type 0
 SlipsShow = map outcome slips ≡ map expected slips
+
+-- ---- W-203: an epitaph with the status -2
+
+abbrev pub epitaph : List ℕ
+epitaph = (0 ∷ 0 ∷ 0 ∷ 0 ∷ 1 ∷ 2 ∷ 3 ∷ 1 ∷ []) ++ (present ++ (0xFE ∷ 0xFF ∷ 0xFF ∷ 0xFF ∷ 0 ∷ 0 ∷ 0 ∷ 0 ∷ []))
+
+abbrev pub EpitaphCasesHold : Type 0
+EpitaphCasesHold =
+    (epitaphBytes 1 2 3 (negsuc 1) ≡ epitaph)
+    -- "6 at 16 if under 24 bytes, then 7 for bytes 20 to 23, at the first nonzero one, then 20 at 24".
+    × (readHeader (take 16 epitaph) ≡ refused (fault objectDoesNotFit (Byte 16)))
+    × (readHeader (set epitaph 21 5) ≡ refused (fault fillNotZero (Byte 21)))
+    × (readHeader (set epitaph 21 5 ++ (0 ∷ [])) ≡ refused (fault fillNotZero (Byte 21)))
+    × (readHeader (epitaph ++ (0 ∷ [])) ≡ refused (fault bytesLeft (Byte 24)))

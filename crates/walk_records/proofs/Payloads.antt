@@ -30,7 +30,7 @@ use Rattle.walk_records.specs.Contracts.{DeeperOpens}
 use Rattle.walk_records.proofs.Claiming.{claim-followed}
 use Rattle.walk_records.proofs.Levels.{levels-spent, levels-down}
 use Rattle.walk_leaves.proofs.Results.{after-none, then-same, then-then, then-require, require-after}
-use Rattle.walk_records.proofs.Zeros.{zeros-at-most}
+use Rattle.words.proofs.Fill.{zeros-at-most}
 
 -- ---- after the payload
 

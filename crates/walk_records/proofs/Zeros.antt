@@ -1,4 +1,4 @@
--- Zero bytes at a place: how many the code counts, and words that are 0.
+-- Zero bytes at a place: words that are 0.
 -- Assumes nothing.
 use mathlib.Core.Path.{_≡_, refl, sym, ap, _∙_}
 use mathlib.Core.Bool.{true, false}
@@ -7,19 +7,9 @@ use Prim.Native.Nat.{ℕ, zero, suc, _+_, _≤_}
 use native.Mathlib.Omega.{arith}
 use borrow.Author.Tests.{eq-eqb, ne-eqb}
 use lib.Dec.{eqb}
-use lib.ListN.{length, length-take, length-drop}
+use lib.ListN.{length}
 use Rattle.rules.specs.Bytes.{littleEndian, part, word, leadingZeros}
 use Rattle.rules.proofs.Bytes.{part-length}
-
-zeros-within : (l : List ℕ) → leadingZeros l ≤ length l
-unfolding leadingZeros
-zeros-within [] = omega arith
-zeros-within (zero ∷ l) = omega (arith, zeros-within l)
-zeros-within (suc byte ∷ l) = omega arith
-
-pub zeros-at-most : (bytes : List ℕ) (at count : ℕ) → leadingZeros (part bytes at count) ≤ count
-unfolding part
-zeros-at-most bytes at count = omega (arith, zeros-within (part bytes at count), simp (length-take, length-drop) at (zeros-within (part bytes at count)))
 
 -- A word is zero where its bytes are.
 zeros-of : (l : List ℕ) → littleEndian l ≡ 0 → leadingZeros l ≡ length l

@@ -1,12 +1,12 @@
 -- Laws of the zero bytes that a part begins with.
 -- Assumes nothing.
 use mathlib.Core.Path.{_≡_, refl, _∙_}
-use mathlib.Core.List.{List, _∷_}
+use mathlib.Core.List.{List, [], _∷_}
 use Prim.Native.Nat.{ℕ, zero, suc, _+_, _-_, _≤_, _<_}
 use native.Mathlib.Nat.{zero-add, add-zero, add-suc, suc-add, sub-zero}
 use native.Mathlib.Numerals.{add-one}
 use native.Mathlib.Omega.{arith}
-use lib.ListN.{length, getD}
+use lib.ListN.{length, getD, length-take, length-drop}
 use Rattle.rules.specs.Bytes.{part, leadingZeros}
 use Rattle.words.proofs.Loads.{part-cons, part-past}
 
@@ -15,6 +15,17 @@ no-zero : (byte : ℕ) (rest : List ℕ) → (byte ≡ 0 → ⊥) → leadingZer
 unfolding leadingZeros
 no-zero zero rest n = absurd (n refl)
 no-zero (suc byte) rest n = refl
+
+-- no more are counted than there are
+zeros-within : (l : List ℕ) → leadingZeros l ≤ length l
+unfolding leadingZeros
+zeros-within [] = omega arith
+zeros-within (zero ∷ l) = omega (arith, zeros-within l)
+zeros-within (suc byte ∷ l) = omega arith
+
+pub zeros-at-most : (bytes : List ℕ) (at count : ℕ) → leadingZeros (part bytes at count) ≤ count
+unfolding part
+zeros-at-most bytes at count = omega (arith, zeros-within (part bytes at count), simp (length-take, length-drop) at (zeros-within (part bytes at count)))
 
 -- What is counted, with `zeros` of `count` bytes behind it: that many, and those that the rest begins with.
 abbrev pub Counted : (bytes : List ℕ) (at count zeros : ℕ) → Type 0

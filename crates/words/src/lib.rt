@@ -5,7 +5,7 @@ ghost use Prim.Native.Nat.{_+_, _%_, _^_, _≤_};
 ghost use lib.Dec.{leb};
 ghost use lib.ListN.{length, getD, set};
 ghost use lib.Seq.{sets};
-ghost use Rattle.rules.specs.Bytes.{word, bytesOf, part, leadingZeros, roundUp, padded};
+ghost use Rattle.rules.specs.Bytes.{word, bytesOf, part, pattern32, signed32, leadingZeros, roundUp, padded};
 ghost use Rattle.words.specs.Bits.{allBits};
 
 // ---- elements
@@ -194,6 +194,28 @@ pub fn store64(out: &mut [u8], at: usize, value: u64)
             store32(out, at + 4, (value / 4294967296) as u32);
         }
     }
+}
+
+// ---- signed numbers
+
+// The signed number that a pattern of 32 bits stands for.
+pub fn signed32(pattern: u32) -> i32
+    ensures { λ r. ⌜ r ≡ signed32 pattern ⌝ }
+{
+    if pattern < 0x80000000 {
+        return pattern as i32;
+    }
+    -1 - (0xFFFFFFFF - pattern) as i32
+}
+
+// A signed number as a pattern of 32 bits.
+pub fn pattern32(number: i32) -> u32
+    ensures { λ r. ⌜ r ≡ pattern32 number ⌝ }
+{
+    if number < 0 {
+        return 0xFFFFFFFF - (-1 - number) as u32;
+    }
+    number as u32
 }
 
 // ---- bits

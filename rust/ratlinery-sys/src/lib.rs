@@ -111,4 +111,15 @@ unsafe extern "C" {
         answer: *mut u64,
         answer_len: usize,
     ) -> u32;
+
+    pub fn ratlinery_epitaph_write(
+        flag0: u8,
+        flag1: u8,
+        flag2: u8,
+        status: i32,
+        out: *mut u8,
+        out_len: usize,
+        answer: *mut u64,
+        answer_len: usize,
+    ) -> u32;
 }

@@ -171,3 +171,20 @@ pub fn header_write(
         )
     }
 }
+
+#[inline]
+pub fn epitaph_write(flags: [u8; 3], status: i32, out: &mut [u8], answer: &mut [u64]) -> u32 {
+    // SAFETY: see above.
+    unsafe {
+        c::ratlinery_epitaph_write(
+            flags[0],
+            flags[1],
+            flags[2],
+            status,
+            out.as_mut_ptr(),
+            out.len(),
+            answer.as_mut_ptr(),
+            answer.len(),
+        )
+    }
+}

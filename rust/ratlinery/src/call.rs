@@ -1,7 +1,7 @@
 //! The calls into the library, each with the `answer` that it fills.
 
 use crate::refusal::{Refusal, Side, judged};
-use crate::{Header, TypeTable};
+use crate::{Epitaph, Header, TypeTable};
 use ratlinery_sys::slices::{self, Asked};
 
 pub(crate) fn layout(table: TypeTable, row: u32) -> Result<[u64; 2], Refusal> {
@@ -50,8 +50,8 @@ pub(crate) fn write(
     judged(Side::Writer, number, place).map(|()| results)
 }
 
-pub(crate) fn header_read(message: &[u8]) -> Result<[u64; 5], Refusal> {
-    let mut answer = [0; 6];
+pub(crate) fn header_read(message: &[u8]) -> Result<[u64; 6], Refusal> {
+    let mut answer = [0; 7];
     let number = slices::header_read(message, &mut answer);
     let [place, results @ ..] = answer;
     judged(Side::Reader, number, place).map(|()| results)
@@ -60,5 +60,11 @@ pub(crate) fn header_read(message: &[u8]) -> Result<[u64; 5], Refusal> {
 pub(crate) fn header_write(header: Header, out: &mut [u8]) -> Result<u64, Refusal> {
     let mut answer = [0; 2];
     let number = slices::header_write(header.transaction, header.flags, header.ordinal, out, &mut answer);
+    judged(Side::Reader, number, answer[0]).map(|()| answer[1])
+}
+
+pub(crate) fn epitaph_write(epitaph: Epitaph, out: &mut [u8]) -> Result<u64, Refusal> {
+    let mut answer = [0; 2];
+    let number = slices::epitaph_write(epitaph.flags, epitaph.status, out, &mut answer);
     judged(Side::Reader, number, answer[0]).map(|()| answer[1])
 }

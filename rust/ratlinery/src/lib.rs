@@ -62,7 +62,7 @@ pub mod row;
 mod table;
 mod tree;
 
-pub use header::Header;
+pub use header::{Epitaph, Header};
 pub use refusal::{Place, Reason, Refusal};
 pub use table::{Layout, Object, ObjectKind, Reading, TypeTable, Written};
 pub use tree::{Content, Member, Members, Parts, Raw, Tree, Unknown, Value};

@@ -43,7 +43,7 @@ const SENTENCES: [(Reason, &str); 26] = [
     (TooManyBytes, "the message has more than 65,536 bytes"),
     (TooManyHandles, "the message has more than 64 handles"),
     (TooDeep, "the message is more than 32 deep"),
-    (DoesNotFit, "an object does not fit into the message"),
+    (DoesNotFit, "the header or an object does not fit into the message"),
     (FillNotZero, "a byte of fill is not zero"),
     (BadBool, "a bool is neither 0 nor 1"),
     (BadPresence, "a presence is neither zero nor all ones"),

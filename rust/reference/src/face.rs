@@ -1,7 +1,7 @@
 //! The functions of include/ratlinery.h with slices for pointers and lengths. A test can put the same input through two
 //! implementations and compare the numbers returned and every buffer.
 
-use crate::{Answer, Header, Message, Schema, refusal};
+use crate::{Answer, Epitaph, Header, Message, Schema, refusal};
 
 /// The two lists of a type table, as document 01 writes them.
 #[derive(Clone, Copy, Debug)]
@@ -50,6 +50,8 @@ pub trait Face {
     fn header_read(&self, message: &[u8], answer: &mut [u64]) -> u32;
 
     fn header_write(&self, header: Header, out: &mut [u8], answer: &mut [u64]) -> u32;
+
+    fn epitaph_write(&self, epitaph: Epitaph, out: &mut [u8], answer: &mut [u64]) -> u32;
 }
 
 /// The reference, by that face. The type table is judged in each call.
@@ -111,22 +113,22 @@ impl Face for Reference {
     }
 
     fn header_read(&self, message: &[u8], answer: &mut [u64]) -> u32 {
-        let read = Header::read(message).map(|(header, body)| {
+        let read = Header::read(message).map(|(header, status, body)| {
             let [flag0, flag1, flag2] = header.flags;
-            let flags = u32::from_le_bytes([flag0, flag1, flag2, 0]);
-            let start = message.len() - body.len();
-            [header.transaction.into(), flags.into(), header.ordinal, start as u64, body.len() as u64]
+            let flags = u32::from_le_bytes([flag0, flag1, flag2, 0]).into();
+            let (start, length) = (message.len() - body.len(), body.len());
+            let status = i64::from(status) as u64;
+            [header.transaction.into(), flags, header.ordinal, start as u64, length as u64, status]
         });
         store(read, answer)
     }
 
     fn header_write(&self, header: Header, out: &mut [u8], answer: &mut [u64]) -> u32 {
-        let written = header.bytes().and_then(|bytes| {
-            refusal::require(out.len() >= 16, 22, 16)?;
-            out[..16].copy_from_slice(&bytes);
-            Ok([16])
-        });
-        store(written, answer)
+        store(header.bytes().and_then(|bytes| put(&bytes, out)), answer)
+    }
+
+    fn epitaph_write(&self, epitaph: Epitaph, out: &mut [u8], answer: &mut [u64]) -> u32 {
+        store(put(&epitaph.bytes(), out), answer)
     }
 }
 
@@ -134,6 +136,14 @@ impl<'t> Table<'t> {
     pub fn schema(self) -> Answer<Schema<'t>> {
         Schema::new(self.rows, self.members)
     }
+}
+
+/// Puts bytes to the start of an output, if there is room (22), and answers how many.
+fn put(bytes: &[u8], out: &mut [u8]) -> Answer<[u64; 1]> {
+    let length = bytes.len();
+    refusal::require(out.len() >= length, 22, length)?;
+    out[..length].copy_from_slice(bytes);
+    Ok([length as u64])
 }
 
 /// Stores place and results, as far as there is room, and returns the number.

@@ -1,6 +1,7 @@
-//! An independent reading of document 01 in plain Rust, to test and to measure Ratlinery against.
+//! An independent reading of document 01, and of document 02's requests that have landed, in plain Rust, to test and to
+//! measure Ratlinery against.
 //!
-//! It is written from document 01 alone and in another shape than the proved code: the type table becomes a list of
+//! It is written from the documents alone and in another shape than the proved code: the type table becomes a list of
 //! types with their fields, a message becomes a tree whose leaves are parts of the message, the lists are flattened
 //! from the tree, and the writer grows a list of bytes in one go.
 
@@ -15,7 +16,7 @@ mod tree;
 pub mod vectors;
 
 pub use decode::Message;
-pub use header::Header;
+pub use header::{Epitaph, Header};
 pub use refusal::{Answer, Refusal};
 pub use schema::{Layout, Schema};
 

@@ -4,12 +4,13 @@
 //! separated by a space; `-` is an empty list, no bytes, or room for anything.
 
 use crate::face::{Face, Table};
-use crate::{Header, Message};
+use crate::{Epitaph, Header, Message};
 use std::collections::BTreeMap;
 use std::path::Path;
 
 /// The files that are run.
-pub const FILES: [&str; 5] = ["text.txt", "base.txt", "conformance.txt", "document.txt", "circle.txt"];
+pub const FILES: [&str; 6] =
+    ["text.txt", "base.txt", "conformance.txt", "document.txt", "circle.txt", "W-203.txt"];
 
 /// What stands in a buffer before a call.
 const UNTOUCHED: u8 = 0xa5;
@@ -65,6 +66,7 @@ fn run(face: &dyn Face, line: &str) -> Result<String, String> {
         "write" => case.write(),
         "header_read" => case.header_read(),
         "header_write" => case.header_write(),
+        "epitaph_write" => case.epitaph_write(),
         _ => Err("no such operation".into()),
     }
     .map(|()| operation.into())
@@ -279,31 +281,50 @@ impl Case<'_> {
     fn header_read(&self) -> Result<(), String> {
         let message = bytes(self.inputs[0]);
         let (number, verdict, results) =
-            self.answered(5, |answer| self.face.header_read(&message, answer))?;
-        let [transaction, flags, ordinal, start, length] = results[..] else { unreachable!() };
+            self.answered(6, |answer| self.face.header_read(&message, answer))?;
+        let [transaction, flags, ordinal, start, length, status] = results[..] else { unreachable!() };
         let flags = hex(&flags.to_le_bytes()[..3]);
-        let mut given = format!("{verdict} {transaction} {flags} {ordinal}");
+        let status = status as i64;
         // conformance.txt leaves out where a header's body starts and ends
-        let body = if self.expected.len() == 5 {
+        let body = if self.expected.len() == 6 {
             let whole = if number == 0 { message.len() } else { 0 };
             same("body", (start + length).to_string(), &whole.to_string())?;
             String::new()
         } else {
             format!(" {start} {}", start + length)
         };
-        given.push_str(&body);
+        let given = format!("{verdict} {transaction} {flags} {ordinal}{body} {status}");
         same("header_read", given, &self.expected.join(" "))
     }
 
     fn header_write(&self) -> Result<(), String> {
         let flags = bytes(self.inputs[1])[..].try_into().expect("three flags");
         let header = Header { transaction: self.number(0) as u32, flags, ordinal: self.number(2) };
-        let mut out = vec![UNTOUCHED; room(self.inputs[3])];
-        let (_, verdict, results) =
-            self.answered(1, |answer| self.face.header_write(header, &mut out, answer))?;
+        self.written("header_write", room(self.inputs[3]), |out, answer| {
+            self.face.header_write(header, out, answer)
+        })
+    }
+
+    fn epitaph_write(&self) -> Result<(), String> {
+        let flags = bytes(self.inputs[0])[..].try_into().expect("three flags");
+        let epitaph = Epitaph { flags, status: list(self.inputs[1])[0] };
+        self.written("epitaph_write", room(self.inputs[2]), |out, answer| {
+            self.face.epitaph_write(epitaph, out, answer)
+        })
+    }
+
+    /// What a writer of a header or an epitaph puts into so much room.
+    fn written(
+        &self,
+        what: &str,
+        room: usize,
+        write: impl FnOnce(&mut [u8], &mut [u64]) -> u32,
+    ) -> Result<(), String> {
+        let mut out = vec![UNTOUCHED; room];
+        let (_, verdict, results) = self.answered(1, |answer| write(&mut out, answer))?;
         let length = results[0] as usize;
         let given = format!("{verdict} {}", or_dash(hex(&out[..length])));
-        same("header_write", given, &self.expected.join(" "))?;
+        same(what, given, &self.expected.join(" "))?;
         untouched("output", &out, length, UNTOUCHED)
     }
 }

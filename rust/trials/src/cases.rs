@@ -1,11 +1,11 @@
 //! The cases of the fuzz: one input each, put through every function that takes it.
 
-use crate::compare::{Compare, Different, Given};
+use crate::compare::{Compare, Different, Given, MOST_RESULTS};
 use crate::generate::table::Lists;
-use crate::generate::{damage, table, values};
+use crate::generate::{damage, header, table, values};
 use crate::random::Random;
 use ratlinery_reference::face::Table;
-use ratlinery_reference::{Header, Message};
+use ratlinery_reference::{Epitaph, Header, Message};
 
 /// What a case was, for a report.
 pub type Description = String;
@@ -13,13 +13,14 @@ pub type Description = String;
 /// Runs a case of a seed: what it was and what differs, if something does.
 pub fn run(compare: &mut Compare, seed: u64, case: u64) -> Result<(), (Description, Different)> {
     let mut random = Random::of_case(seed, case);
-    compare.answer_room = if random.one_in(4) { random.below(8) } else { 6 };
+    compare.answer_room = if random.one_in(4) { random.below(MOST_RESULTS + 2) } else { MOST_RESULTS };
     compare.shift = random.below(8);
-    match random.below(20) {
+    match random.below(21) {
         0 => header_read(&mut random, compare),
         1 => header_write(&mut random, compare),
-        2 => layout(&mut random, compare),
-        3..9 => write(&mut random, compare),
+        2 => epitaph_write(&mut random, compare),
+        3 => layout(&mut random, compare),
+        4..10 => write(&mut random, compare),
         _ => read(&mut random, compare),
     }
 }
@@ -53,34 +54,57 @@ fn layout(random: &mut Random, compare: &mut Compare) -> Result<(), (Description
 }
 
 fn header_read(random: &mut Random, compare: &mut Compare) -> Result<(), (Description, Different)> {
-    let mut message: Vec<u8> = (0..16).map(|_| random.word() as u8).collect();
-    message[7] = if random.one_in(8) { random.word() as u8 } else { 1 };
-    if random.one_in(3) {
-        let ordinal: u64 = random.pick(&[0, 1, 0xffff_ffff, u64::MAX, u64::MAX]);
-        message[8..].copy_from_slice(&ordinal.to_le_bytes());
-    }
-    if random.one_in(3) {
-        message[..4].fill(0);
-    }
-    let length = match random.below(40) {
-        0 => random.pick(&[65_535, 65_536, 65_537, 70_000]),
-        1..5 => random.below(17),
-        5..20 => random.between(16, 40),
-        _ => 16,
-    };
-    message.resize(length, 7);
+    let message = header::message(random);
     let described = || format!("header_read {}", hex(&message));
-    compare.header_read(&message).map(|_| ()).map_err(|different| (described(), different))
+    header_read_all(compare, &message).map_err(|different| (described(), different))
+}
+
+/// An epitaph that is read is written as the same message.
+fn header_read_all(compare: &mut Compare, message: &[u8]) -> Result<(), Different> {
+    let given = compare.header_read(message)?;
+    let [_, flags, ordinal, _, _, status] = given.results;
+    if given.number != 0 || ordinal != u64::MAX {
+        return Ok(());
+    }
+    let [flag0, flag1, flag2, ..] = flags.to_le_bytes();
+    let epitaph = Epitaph { flags: [flag0, flag1, flag2], status: status as i32 };
+    let (given, bytes) = compare.epitaph_write(epitaph, message.len())?;
+    if given.number == 0 && bytes == message {
+        return Ok(());
+    }
+    Err(format!("what is read is not written as it was: {given:?}, {}", hex(&bytes)))
 }
 
 fn header_write(random: &mut Random, compare: &mut Compare) -> Result<(), (Description, Different)> {
-    let transaction = if random.one_in(3) { 0 } else { random.word() as u32 };
-    let ordinal = if random.one_in(2) { random.pick(&[0, u64::MAX, u64::MAX, 1]) } else { random.word() };
-    let flags = [random.word() as u8, random.word() as u8, random.word() as u8];
-    let header = Header { transaction, flags, ordinal };
+    let header = header::header(random);
+    let Header { transaction, flags, ordinal } = header;
     let room = if random.one_in(3) { random.below(16) } else { random.between(16, 24) };
     let described = || format!("header_write {transaction} {} {ordinal} {room}", hex(&flags));
     compare.header_write(header, room).map(|_| ()).map_err(|different| (described(), different))
+}
+
+fn epitaph_write(random: &mut Random, compare: &mut Compare) -> Result<(), (Description, Different)> {
+    let epitaph = header::epitaph(random);
+    let Epitaph { flags, status } = epitaph;
+    let room = if random.one_in(3) { random.below(24) } else { random.between(24, 32) };
+    let described = || format!("epitaph_write {} {status} {room}", hex(&flags));
+    epitaph_write_all(compare, epitaph, room).map_err(|different| (described(), different))
+}
+
+/// An epitaph that is written is read as it was.
+fn epitaph_write_all(compare: &mut Compare, epitaph: Epitaph, room: usize) -> Result<(), Different> {
+    let (given, bytes) = compare.epitaph_write(epitaph, room)?;
+    if given.number != 0 {
+        return Ok(());
+    }
+    let [flag0, flag1, flag2] = epitaph.flags;
+    let flags = u32::from_le_bytes([flag0, flag1, flag2, 0]).into();
+    let status = i64::from(epitaph.status) as u64;
+    let given = compare.header_read(&bytes)?;
+    if given.number == 0 && given.results == [0, flags, u64::MAX, 16, 8, status] {
+        return Ok(());
+    }
+    Err(format!("what is written is not read as it was: {given:?}"))
 }
 
 /// A value list, damaged more often than not, into rooms around what it needs.

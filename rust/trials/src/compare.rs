@@ -2,7 +2,7 @@
 //! and what must be untouched is held against what it was filled with.
 
 use ratlinery_reference::face::{Face, Table};
-use ratlinery_reference::{Header, Message};
+use ratlinery_reference::{Epitaph, Header, Message};
 use std::collections::BTreeMap;
 
 /// How often each function gave each number, 0 to 26.
@@ -17,7 +17,7 @@ const FILLED: u8 = 0xa5;
 const FILLED32: u32 = u32::from_ne_bytes([FILLED; 4]);
 const FILLED64: u64 = u64::from_ne_bytes([FILLED; 8]);
 /// No function has more results than this, with the place.
-const MOST_RESULTS: usize = 6;
+pub const MOST_RESULTS: usize = 7;
 
 #[derive(Clone, Copy)]
 enum Side {
@@ -199,7 +199,7 @@ impl<'f> Compare<'f> {
     }
 
     pub fn header_read(&mut self, message: &[u8]) -> Result<Given, Different> {
-        self.both("header_read", 5, |face, _, answer| face.header_read(message, answer))
+        self.both("header_read", 6, |face, _, answer| face.header_read(message, answer))
     }
 
     pub fn header_write(&mut self, header: Header, room: usize) -> Result<Given, Different> {
@@ -208,5 +208,16 @@ impl<'f> Compare<'f> {
             .both("header_write", 1, |face, side, answer| face.header_write(header, out.of(side), answer))?;
         out.judge("header_write", given.results[0] as usize)?;
         Ok(given)
+    }
+
+    /// The epitaph that is written, with what it is.
+    pub fn epitaph_write(&mut self, epitaph: Epitaph, room: usize) -> Result<(Given, Vec<u8>), Different> {
+        let mut out = Lent::new(room, self.shift, FILLED);
+        let given = self.both("epitaph_write", 1, |face, side, answer| {
+            face.epitaph_write(epitaph, out.of(side), answer)
+        })?;
+        let count = given.results[0] as usize;
+        out.judge("epitaph_write", count)?;
+        Ok((given, out.given(count).to_vec()))
     }
 }

@@ -2,7 +2,7 @@
 //! length, lists that are not whole, an output at any byte.
 
 use ratlinery_reference::face::{Face, Table};
-use ratlinery_reference::{Header, Message};
+use ratlinery_reference::{Epitaph, Header, Message};
 use ratlinery_sys::slices::{self, Asked};
 
 /// The functions of libratlinery.a.
@@ -66,5 +66,9 @@ impl Face for Library {
 
     fn header_write(&self, header: Header, out: &mut [u8], answer: &mut [u64]) -> u32 {
         slices::header_write(header.transaction, header.flags, header.ordinal, out, answer)
+    }
+
+    fn epitaph_write(&self, epitaph: Epitaph, out: &mut [u8], answer: &mut [u64]) -> u32 {
+        slices::epitaph_write(epitaph.flags, epitaph.status, out, answer)
     }
 }

@@ -37,6 +37,8 @@ fn every_list_of_length_0_may_be_null() {
         assert_eq!(c::ratlinery_header_read(null(), 0, word, 3), 6);
         assert_eq!(c::ratlinery_header_write(1, 0, 0, 0, 1, null_mut(), 0, word, 2), 22);
         assert_eq!(answer, [16, 0, 0]);
+        assert_eq!(c::ratlinery_epitaph_write(0, 0, 0, -1, null_mut(), 0, word, 2), 22);
+        assert_eq!(answer, [24, 0, 0]);
     }
 }
 

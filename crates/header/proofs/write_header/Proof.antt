@@ -7,7 +7,10 @@ use Rattle.header.proofs.write_header.Statement.{statement}
 use Rattle.header.proofs.write_header.Tie as tie
 
 returns : tie.Need-returns
-returns c = room-refused _ _ _ (c .before .before .before .judge-ordinal .ensures) (c .before .enum-told .given .1) (omega (arith, c .if1 .taken))
+returns c =
+    let room = c .before in
+    room-refused _ _ _ (room .before .before .before .judge-ordinal .ensures) (room .before .enum-told .given .1) (omega (arith, room .if1 .taken))
+    (c .no-room .ensures)
 
 returns-2 : tie.Need-returns-2
 returns-2 c = ordinal-refused _ _ _ (c .before .before .before .judge-ordinal .ensures) (c .before .judged .given .1)
@@ -24,5 +27,5 @@ pub write-header-spec : {M : Type 1} → statement M
 write-header-spec =
     tie.close
     (tie.spec
-    (λ c κs. search needs) (λ c. search needs) (λ c. search needs) returns (λ c κs. search needs)
+    (λ c κs. search needs) (λ c. search needs) (λ c. search needs) (λ c κs. search needs) returns (λ c κs. search needs)
     returns-2 (λ c. search needs) returns-3)

@@ -95,6 +95,25 @@ pub fn message(random: &mut Random, message: &mut Vec<u8>) {
     }
 }
 
+/// The first and last bytes of an epitaph's parts: transaction, magic, ordinal, status, fill.
+const EPITAPH_PARTS: [(usize, usize); 5] = [(0, 3), (7, 7), (8, 15), (16, 19), (20, 23)];
+
+/// A byte of an epitaph is changed, or it becomes shorter or longer.
+pub fn epitaph(random: &mut Random, message: &mut Vec<u8>) {
+    match random.below(12) {
+        0 => message.truncate(random.below(24)),
+        1 => message.truncate(random.between(16, 23)),
+        2..5 => message.resize(message.len() + random.between(1, 16), random.pick(&[0, 7])),
+        5 if random.one_in(10) => message.resize(random.pick(&[65_536, 65_537]), 0),
+        _ => {
+            let (first, last) = random.pick(&EPITAPH_PARTS);
+            if let Some(byte) = message.get_mut(random.between(first, last)) {
+                *byte ^= random.pick(&[1, 2, 0x80, 0xff]);
+            }
+        }
+    }
+}
+
 /// A whole word: a count, a presence, an ordinal or an envelope.
 fn word(random: &mut Random, message: &mut [u8]) {
     let at = random.below(message.len() / 8);
