@@ -81,7 +81,7 @@ enum {
     RATLINERY_NOT_UTF8 = 13,              /* a string is not UTF-8 | record */
     RATLINERY_TOO_FEW_HANDLES = 14,       /* too few handles are left | word or envelope */
     RATLINERY_BAD_ENVELOPE = 15,          /* an envelope's flags or form of size are wrong | envelope */
-    RATLINERY_BAD_ENVELOPE_NUMBERS = 16,  /* an envelope's byte or handle number is wrong | envelope */
+    RATLINERY_BAD_BYTE_NUMBER = 16,       /* an envelope's byte number is wrong | envelope */
     RATLINERY_UNKNOWN_ORDINAL = 17,       /* unknown ordinal in a strict union | union */
     RATLINERY_UNION_WITHOUT_CONTENT = 18, /* a union's ordinal is not 0, its envelope is zero | envelope */
     RATLINERY_LAST_ENVELOPE_ABSENT = 19,  /* a table's last envelope is zero | that envelope */
@@ -91,7 +91,8 @@ enum {
     RATLINERY_BAD_MAGIC = 23,             /* a header's magic byte is not 1 | 7 */
     RATLINERY_ORDINAL_ZERO = 24,          /* a header's ordinal is 0 | 8 */
     RATLINERY_EPITAPH_TRANSACTION = 25,   /* an epitaph has a transaction number | 0 */
-    RATLINERY_NOT_A_VALUE = 26            /* the value list is no value of the root | index */
+    RATLINERY_NOT_A_VALUE = 26,           /* the value list is no value of the root | index */
+    RATLINERY_BAD_HANDLE_NUMBER = 28      /* an envelope's handle number is wrong | envelope */
 };
 
 /* The layout of a row of any kind.
@@ -102,7 +103,7 @@ uint32_t ratlinery_layout(const uint32_t *rows, size_t rows_len, const uint32_t 
 
 /* Is a message, with its number of handles, one of the root's type? Any 64-bit number of handles may be asked about.
  * answer: place.
- * Refusals: 1, 2, 3, 4, in this order; 5 to 19; 20, 21. */
+ * Refusals: 1, 2, 3, 4, in this order; 5 to 19, 28; 20, 21. */
 uint32_t ratlinery_check(const uint32_t *rows, size_t rows_len, const uint32_t *members, size_t members_len,
                          uint32_t root, const uint8_t *message, size_t message_len, uint64_t handles,
                          uint64_t *answer, size_t answer_len);

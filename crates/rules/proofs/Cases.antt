@@ -1,4 +1,4 @@
--- Document 01's cases P1 to P12, and its slips, each computed over the whole table.
+-- Document 01's cases P1 to P12, its slips, and cases of the change requests, each computed over the whole table.
 use mathlib.Core.Path.{refl}
 use Rattle.rules.specs.Bytes.{littleEndian, bytesOf, part, word, zeros, leadingZeros, roundUp, padded}
 use Rattle.rules.specs.TypeTable.{envelopeSize, typeOf, memberRows, contentOf, below}
@@ -12,7 +12,7 @@ use Rattle.rules.specs.Envelope.{decodeWord, byteNumbered, flagged, unkn
 use Rattle.rules.specs.Walk as W
 use Rattle.rules.specs.Answers.{walk, judged, check, readValues, readObjects, read}
 use Rattle.rules.specs.Header.{readHeader}
-use Rattle.rules.specs.Cases.{CasesHold, SlipsShow, EpitaphCasesHold}
+use Rattle.rules.specs.Cases.{CasesHold, SlipsShow, EpitaphCasesHold, RequestsHold}
 
 pub cases-hold : CasesHold
 unfolding littleEndian part word leadingZeros roundUp padded envelopeSize typeOf memberRows contentOf below largestAlignment fieldsFrom fieldsOf fieldsSize structSize layoutAs layoutBelow layoutOf structMembers risingMembers rowFits rowSound rowsSound soundness rootAllowed follows isUtf8 objectList D.sequence D.elements D.recordThen D.checked D.fill D.claim D.takeHandles D.optionalEnvelope D.lastPresent D.zeroEnvelope D.presentEnvelope readNumber presence readPresence readCount readTable decodeWord byteNumbered flagged unknownEnvelope contentOfEightBytes decodeContent W.fields W.structFields W.decodeAs W.decodeBelow W.decodeRow W.levels walk judged check readValues readObjects read
@@ -25,3 +25,7 @@ slips-show = refl
 pub epitaph-cases-hold : EpitaphCasesHold
 unfolding littleEndian bytesOf part word zeros leadingZeros readHeader
 epitaph-cases-hold = (refl, refl, refl, refl, refl)
+
+pub requests-hold : RequestsHold
+unfolding bytesOf littleEndian part word leadingZeros roundUp padded envelopeSize typeOf memberRows contentOf below largestAlignment fieldsFrom fieldsOf fieldsSize structSize layoutAs layoutBelow layoutOf structMembers risingMembers rowFits rowSound rowsSound soundness rootAllowed follows isUtf8 objectList D.sequence D.elements D.recordThen D.checked D.fill D.claim D.takeHandles D.optionalEnvelope D.lastPresent D.zeroEnvelope D.presentEnvelope readNumber presence readPresence readCount readTable decodeWord byteNumbered flagged unknownEnvelope contentOfEightBytes decodeContent W.fields W.structFields W.decodeAs W.decodeBelow W.decodeRow W.levels walk judged check readValues readObjects read
+requests-hold = refl

@@ -10,7 +10,7 @@ use lib.ListN.{length, length-append, take}
 use lib.Seq.{take-append-seam}
 use Rattle.rules.specs.declared.Place.the-variants.{Byte}
 use Rattle.rules.specs.declared.Fault.{Fault}
-use Rattle.rules.specs.Refusals.{fault, notAValue, envelopeFormWrong, envelopeNumberWrong}
+use Rattle.rules.specs.Refusals.{fault, notAValue, envelopeFormWrong, byteNumberWrong, handleNumberWrong}
 use Rattle.rules.specs.Bytes.{Octets, word, bytesOf}
 use Rattle.rules.specs.Trace.{Event}
 use Rattle.rules.specs.Decode as D
@@ -138,7 +138,7 @@ module _ (m : Message) (oct : Octets (m .bytes)) (short : length (m .bytes) ≤ 
     wellFormed = λ {vs} {n} {u} e. numbered-form (numbered-inv n (g vs n u) e);
     decodesWhatWasEncoded = λ {vs} {n} {u} e h k l. numbered-decodes (numbered-inv n (g vs n u) e) h k l;
     encodesWhatWasDecoded = λ {at} {n} {u} {n₁} e h k rest.
-        let i = require-after-inv (λ n₁ u₁ vs. eqb (lowWord m at) (n₁ - n)) (fault envelopeNumberWrong (Byte at)) (f at n u) e in
+        let i = require-after-inv (λ n₁ u₁ vs. eqb (lowWord m at) (n₁ - n)) (fault byteNumberWrong (Byte at)) (f at n u) e in
         numbered-joined h (eqb-true (lowWord m at) (n₁ - n) (i .1)) (a .encodesWhatWasDecoded (i .0) (omega arith) k rest);
   }
 
@@ -218,9 +218,9 @@ module _ (m : Message) (oct : Octets (m .bytes)) (few : m .handles ≤ 64) (form
     wellFormed = λ {vs} {n} {u} e. flagged-form (flagged-inv form u (g vs n u) e);
     decodesWhatWasEncoded = λ {vs} {n} {u} e h k l. flagged-decodes (flagged-inv form u (g vs n u) e) h k l;
     encodesWhatWasDecoded = λ {at} {n} {u} {n₁} {u₁} e h k rest.
-        let r = D.requireAfter (λ n₁ u₁ vs. eqb (handleNumber m at) (u₁ - u)) (fault envelopeNumberWrong (Byte at)) (f at n u) in
+        let r = D.requireAfter (λ n₁ u₁ vs. eqb (handleNumber m at) (u₁ - u)) (fault handleNumberWrong (Byte at)) (f at n u) in
         let i = require-inv (eqb (flags m at) form) (fault envelopeFormWrong (Byte at)) r e in
-        let j = require-after-inv (λ n₁ u₁ vs. eqb (handleNumber m at) (u₁ - u)) (fault envelopeNumberWrong (Byte at)) (f at n u) (i .1) in
+        let j = require-after-inv (λ n₁ u₁ vs. eqb (handleNumber m at) (u₁ - u)) (fault handleNumberWrong (Byte at)) (f at n u) (i .1) in
         let y = a .encodesWhatWasDecoded (j .0) (omega arith) k rest in
         flagged-joined h (eqb-true (flags m at) form (i .0)) (eqb-true (handleNumber m at) (u₁ - u) (j .1)) y (a .wellFormed (y .writes));
   }

@@ -10,7 +10,7 @@ use borrow.Author.Tests.{leb-true}
 use lib.ListN.{length}
 use Rattle.rules.specs.declared.Place.the-variants.{Byte}
 use Rattle.rules.specs.declared.Fault.{Fault}
-use Rattle.rules.specs.Refusals.{if_then_else_, fault, objectDoesNotFit, fillNotZero, absentNotZero, tooFewHandles, envelopeFormWrong, envelopeNumberWrong, presentEnvelopeZero, lastEnvelopeZero}
+use Rattle.rules.specs.Refusals.{if_then_else_, fault, objectDoesNotFit, fillNotZero, absentNotZero, tooFewHandles, envelopeFormWrong, byteNumberWrong, handleNumberWrong, presentEnvelopeZero, lastEnvelopeZero}
 use Rattle.rules.specs.Bytes.{part, word, zeros, leadingZeros, padded, ones32}
 use Rattle.rules.specs.Trace.{Event, claimed, presentHandle, unknownContent, objectList, handlesOf, FillsAreZero, PresentHandlesAreOnes}
 use Rattle.rules.specs.Decode as D
@@ -194,14 +194,14 @@ module _ (m : Message) where
   pub numbered-true : {payload : Decoder} → Truthful payload → Truthful (byteNumbered m payload)
   unfolding byteNumbered
   numbered-true {payload} x = record {
-    met = λ at next used. true-require-after (λ n u values. eqb (lowWord m at) (n - next)) (fault envelopeNumberWrong (Byte at)) (payload at next used) (x .met at next used);
+    met = λ at next used. true-require-after (λ n u values. eqb (lowWord m at) (n - next)) (fault byteNumberWrong (Byte at)) (payload at next used) (x .met at next used);
   }
 
   pub flagged-true : (form : ℕ) {payload : Decoder} → Truthful payload → Truthful (flagged m form payload)
   unfolding flagged
   flagged-true form {payload} x = record {
     met = λ at next used.
-        let numbered = D.requireAfter (λ n u values. eqb (handleNumber m at) (u - used)) (fault envelopeNumberWrong (Byte at)) (payload at next used) in
+        let numbered = D.requireAfter (λ n u values. eqb (handleNumber m at) (u - used)) (fault handleNumberWrong (Byte at)) (payload at next used) in
         true-require (eqb (flags m at) form) (fault envelopeFormWrong (Byte at)) numbered (λ e.
-        true-require-after (λ n u values. eqb (handleNumber m at) (u - used)) (fault envelopeNumberWrong (Byte at)) (payload at next used) (x .met at next used));
+        true-require-after (λ n u values. eqb (handleNumber m at) (u - used)) (fault handleNumberWrong (Byte at)) (payload at next used) (x .met at next used));
   }

@@ -8,7 +8,7 @@ use lib.Dec.{eqb}
 use borrow.Author.Tests.{eqb-true}
 use lib.ListN.{length}
 use Rattle.rules.specs.declared.Place.the-variants.{Byte}
-use Rattle.rules.specs.Refusals.{if_then_else_, fault, absentNotZero, notAValue, envelopeFormWrong, envelopeNumberWrong, presentEnvelopeZero, lastEnvelopeZero}
+use Rattle.rules.specs.Refusals.{if_then_else_, fault, absentNotZero, notAValue, envelopeFormWrong, byteNumberWrong, handleNumberWrong, presentEnvelopeZero, lastEnvelopeZero}
 use Rattle.rules.specs.Bytes.{zeros}
 use Rattle.rules.specs.Trace.{Event, objectList, presentHandles, unknownHandles, unknownOutOfLine, unknownLengths, Tiles}
 use Rattle.rules.specs.Decode as D
@@ -209,7 +209,7 @@ pub never-zero-flag : (m : Message) (f : Decoder) → NeverZero m 8 (flagged m i
 unfolding flagged
 never-zero-flag m f = record {
   nonzero = λ {at} {n} {u} e h k z.
-      let r = D.requireAfter (λ n₁ u₁ vs. eqb (handleNumber m at) (u₁ - u)) (fault envelopeNumberWrong (Byte at)) (f at n u) in
+      let r = D.requireAfter (λ n₁ u₁ vs. eqb (handleNumber m at) (u₁ - u)) (fault handleNumberWrong (Byte at)) (f at n u) in
       let i = require-inv (eqb (flags m at) inLine) (fault envelopeFormWrong (Byte at)) r e in
       omega (arith, word-add (m .bytes) at 6 2 (omega arith), word-zeros (m .bytes) at 8 z, eqb-true (flags m at) inLine (i .0));
 }
@@ -221,10 +221,10 @@ pub never-zero-number : (m : Message) (form : ℕ) (f : Decoder) → Grows m f �
 unfolding flagged byteNumbered
 never-zero-number m form f g = record {
   nonzero = λ {at} {n} {u} {n₁} e h k z.
-      let s = D.requireAfter (λ n₁ u₁ vs. eqb (lowWord m at) (n₁ - n)) (fault envelopeNumberWrong (Byte at)) (f at n u) in
-      let r = D.requireAfter (λ n₁ u₁ vs. eqb (handleNumber m at) (u₁ - u)) (fault envelopeNumberWrong (Byte at)) s in
+      let s = D.requireAfter (λ n₁ u₁ vs. eqb (lowWord m at) (n₁ - n)) (fault byteNumberWrong (Byte at)) (f at n u) in
+      let r = D.requireAfter (λ n₁ u₁ vs. eqb (handleNumber m at) (u₁ - u)) (fault handleNumberWrong (Byte at)) s in
       let i = require-inv (eqb (flags m at) form) (fault envelopeFormWrong (Byte at)) r e in
-      let j = require-after-inv (λ n₁ u₁ vs. eqb (handleNumber m at) (u₁ - u)) (fault envelopeNumberWrong (Byte at)) s (i .1) in
-      let l = require-after-inv (λ n₁ u₁ vs. eqb (lowWord m at) (n₁ - n)) (fault envelopeNumberWrong (Byte at)) (f at n u) (j .0) in
+      let j = require-after-inv (λ n₁ u₁ vs. eqb (handleNumber m at) (u₁ - u)) (fault handleNumberWrong (Byte at)) s (i .1) in
+      let l = require-after-inv (λ n₁ u₁ vs. eqb (lowWord m at) (n₁ - n)) (fault byteNumberWrong (Byte at)) (f at n u) (j .0) in
       omega (arith, word-add (m .bytes) at 4 4 (omega arith), word-zeros (m .bytes) at 8 z, eqb-true (lowWord m at) (n₁ - n) (l .1), g .grows (l .0) (omega arith) k);
 }

@@ -1,4 +1,5 @@
--- Document 01's cases P1 to P12 as one table, and its slips as another. That they hold is computed: proofs/Cases.antt.
+-- Document 01's cases P1 to P12 as one table, its slips as another, and cases of the change requests as a third. That they hold
+-- is computed: proofs/Cases.antt.
 use mathlib.Core.Path.{_≡_}
 use mathlib.Core.List.{List, [], _∷_, _++_, map}
 use Prim.Native.Nat.{ℕ, zero, suc, _+_, _-_, _*_, _/_}
@@ -172,3 +173,17 @@ EpitaphCasesHold =
     × (readHeader (set epitaph 21 5) ≡ refused (fault fillNotZero (Byte 21)))
     × (readHeader (set epitaph 21 5 ++ (0 ∷ [])) ≡ refused (fault fillNotZero (Byte 21)))
     × (readHeader (epitaph ++ (0 ∷ [])) ≡ refused (fault bytesLeft (Byte 24)))
+
+-- ---- cases of the change requests
+
+abbrev pub requests : List Case
+requests =
+    -- W-208: "A wrong handle number is 28," in line
+    checks padTable 4 (set p1 20 1) 1 28 16
+    -- and out of line, "tested after 16 at the same envelope".
+    ∷ checks vectorTable 3 (set (vectorMember 24) 20 1) 1 28 16
+    ∷ checks vectorTable 3 (set (vectorMember 16) 20 1) 1 16 16
+    ∷ []
+
+abbrev pub RequestsHold : Type 0
+RequestsHold = map outcome requests ≡ map expected requests

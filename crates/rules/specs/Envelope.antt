@@ -5,7 +5,7 @@ use mathlib.Core.List.{List, [], _∷_, _++_}
 use Prim.Native.Nat.{ℕ, _+_, _-_, _/_, _%_}
 use lib.Dec.{leb, ltb, eqb}
 use Rattle.rules.specs.declared.Place.the-variants.{Byte}
-use Rattle.rules.specs.Refusals.{if_then_else_, fault, envelopeFormWrong, envelopeNumberWrong}
+use Rattle.rules.specs.Refusals.{if_then_else_, fault, envelopeFormWrong, byteNumberWrong, handleNumberWrong}
 use Rattle.rules.specs.Bytes.{word, bytesOf, padded}
 use Rattle.rules.specs.TypeTable.{TypeTable, Edition, eightByteEnvelopes, Content, known, unknown}
 use Rattle.rules.specs.Sizes.{sizeOf}
@@ -51,22 +51,23 @@ module _ (m : D.Message) where
   abbrev pub requireForm : Bool → (at : ℕ) → D.Decoded → D.Decoded
   requireForm holds at result = D.require holds (fault envelopeFormWrong (Byte at)) result
 
-  -- 16, at the envelope, after its value.
-  abbrev pub requireNumber : (ℕ → ℕ → Bool) → (at : ℕ) → D.Decoded → D.Decoded
-  requireNumber holds at result = D.requireAfter (λ next used values. holds next used) (fault envelopeNumberWrong (Byte at)) result
+  -- A number of the envelope, tested after its value; at the envelope. W-208: 16 "means only a wrong byte number. A wrong
+  -- handle number is 28, tested after 16 at the same envelope."
+  abbrev pub requireNumber : (refusal : ℕ) → (ℕ → ℕ → Bool) → (at : ℕ) → D.Decoded → D.Decoded
+  requireNumber refusal holds at result = D.requireAfter (λ next used values. holds next used) (fault refusal (Byte at)) result
 
   -- 16: "the byte number covering everything claimed from its payload on, fill included".
   unfoldable pub byteNumbered : D.Decoder → D.Decoder
-  byteNumbered payload at next used = requireNumber (λ n u. eqb (lowWord at) (n - next)) at (payload at next used)
+  byteNumbered payload at next used = requireNumber byteNumberWrong (λ n u. eqb (lowWord at) (n - next)) at (payload at next used)
 
   -- The flags that the payload's size asks for, then the payload, then its handle number.
   unfoldable pub flagged : (form : ℕ) → D.Decoder → D.Decoder
   flagged form payload at next used =
-      let numbered = requireNumber (λ n u. eqb (handleNumber at) (u - used)) at (payload at next used) in
+      let numbered = requireNumber handleNumberWrong (λ n u. eqb (handleNumber at) (u - used)) at (payload at next used) in
       requireForm (eqb (flags at) form) at numbered
 
   -- "A payload of size up to 4 must be in line, a larger one out of line. Known member: 15, 5; in line: value, fill up to
-  -- four, 16; out of line: claim, value, then 16".
+  -- four," then 28; "out of line: claim, value, then 16", then 28.
   abbrev pub knownAs : (small : Bool) → D.Deeper → (row : ℕ) → D.Decoder
   knownAs true below row =
       flagged inLine (D.sequence (sizeOf (m .table) row) (D.here (λ at. D.oneDeeper below at (λ rows b. rows row))) (D.fill m (4 - sizeOf (m .table) row)))

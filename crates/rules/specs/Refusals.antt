@@ -1,4 +1,4 @@
--- Refusals and answers: the numbers of document 01's table, each written here once, and what an answer is.
+-- Refusals and answers: the numbers of document 01's table and of the change requests, each written here once, and what an answer is.
 -- Assumes nothing.
 use mathlib.Core.Bool.{Bool, true, false}
 use mathlib.Core.List.{List, _++_}
@@ -75,9 +75,9 @@ tooFewHandles = 14
 abbrev pub envelopeFormWrong : ℕ
 envelopeFormWrong = 15
 
--- an envelope's byte number or handle number is wrong
-abbrev pub envelopeNumberWrong : ℕ
-envelopeNumberWrong = 16
+-- an envelope's byte number is wrong
+abbrev pub byteNumberWrong : ℕ
+byteNumberWrong = 16
 
 -- an ordinal that a strict union does not know
 abbrev pub ordinalUnknown : ℕ
@@ -118,6 +118,10 @@ epitaphTransaction = 25
 -- the list is not a value
 abbrev pub notAValue : ℕ
 notAValue = 26
+
+-- an envelope's handle number is wrong
+abbrev pub handleNumberWrong : ℕ
+handleNumberWrong = 28
 
 -- ---- answers
 

@@ -9,7 +9,7 @@ use lib.Dec.{eqb}
 use lib.ListN.{length}
 use Rattle.rules.specs.declared.Fault.{Fault}
 use Rattle.rules.specs.declared.Place.the-variants.{Byte}
-use Rattle.rules.specs.Refusals.{fault, tooDeep, envelopeFormWrong, envelopeNumberWrong, fillNotZero}
+use Rattle.rules.specs.Refusals.{fault, tooDeep, envelopeFormWrong, byteNumberWrong, handleNumberWrong, fillNotZero}
 use Rattle.rules.specs.Bytes.{part, word, leadingZeros}
 use Rattle.rules.specs.TypeTable.{TypeTable, known}
 use Rattle.rules.specs.Sizes.{sizeOf}
@@ -39,7 +39,7 @@ module _ (t : TypeTable) (bytes values objects : List ℕ) (handles at used : �
       → Did (length bytes) handles 0 values values objects objects c (On c) (handlesSealed (message t bytes handles) at used (c .next) (c .handles))
   handles-right q h k = rw (← e, eq-eqb _ _ q) (did-nothing h k)
 
-  pub handles-wrong : {r : Walked} → (number ≡ c .handles - used → ⊥) → r ≡ Refused (fault envelopeNumberWrong (Byte at))
+  pub handles-wrong : {r : Walked} → (number ≡ c .handles - used → ⊥) → r ≡ Refused (fault handleNumberWrong (Byte at))
       → Did (length bytes) handles 0 values values objects objects c r (handlesSealed (message t bytes handles) at used (c .next) (c .handles))
   handles-wrong n y = rw (← e, ne-eqb _ _ n, y) did-stop
 
@@ -61,7 +61,7 @@ module _ (t : TypeTable) (bytes values objects : List ℕ) (handles size at next
 
   -- and out of line.
   module _ {number : ℕ} (large : 4 < size) (e : number ≡ word bytes at 4) where
-    pub bytes-wrong : (number ≡ c .next - next → ⊥) → r ≡ Refused (fault envelopeNumberWrong (Byte at))
+    pub bytes-wrong : (number ≡ c .next - next → ⊥) → r ≡ Refused (fault byteNumberWrong (Byte at))
         → Did (length bytes) handles 0 values values objects objects c r (sealedAt (message t bytes handles) size at next used (c .next) (c .handles))
     unfolding sealedAt
     bytes-wrong n y = rw (lt-leb _ _ large, ← e, ne-eqb _ _ n, y) did-stop
@@ -105,14 +105,14 @@ module _ (m : Message) (below : D.Deeper) (row payload : ℕ) {size : ℕ} (at n
       claim-of = D.oneDeeper below at (λ rows b. D.claim m payloadObject payload size (rows payload)) at n u
 
       covered : ℕ → ℕ → Decoded
-      covered n′ u′ = D.require (eqb (lowWord m at) (n′ - n)) (fault envelopeNumberWrong (Byte at)) (went n′ u′ [] [])
+      covered n′ u′ = D.require (eqb (lowWord m at) (n′ - n)) (fault byteNumberWrong (Byte at)) (went n′ u′ [] [])
 
       numbered : ℕ → ℕ → Decoded
       numbered n′ u′ = handlesSealed m at u n′ u′
 
-      both : (n′ u′ : ℕ) → D.andThen (covered n′ u′) numbered ≡ D.require (eqb (lowWord m at) (n′ - n)) (fault envelopeNumberWrong (Byte at)) (handlesSealed m at u n′ u′)
+      both : (n′ u′ : ℕ) → D.andThen (covered n′ u′) numbered ≡ D.require (eqb (lowWord m at) (n′ - n)) (fault byteNumberWrong (Byte at)) (handlesSealed m at u n′ u′)
       both n′ u′ =
-          then-require (eqb (lowWord m at) (n′ - n)) (fault envelopeNumberWrong (Byte at)) (went n′ u′ [] []) numbered
+          then-require (eqb (lowWord m at) (n′ - n)) (fault byteNumberWrong (Byte at)) (went n′ u′ [] []) numbered
           ∙ rw after-none
 
 -- A known payload's envelope, under a message's bytes and handle count.

@@ -6,7 +6,7 @@ use mathlib.Core.Path.{_≡_}
 use Prim.Native.Nat.{ℕ, zero, suc, _+_, _-_, _*_, _/_, _<_}
 use lib.Dec.{leb, eqb}
 use Rattle.rules.specs.declared.Place.the-variants.{Byte}
-use Rattle.rules.specs.Refusals.{if_then_else_, fault, envelopeNumberWrong}
+use Rattle.rules.specs.Refusals.{if_then_else_, fault, byteNumberWrong, handleNumberWrong}
 use Rattle.rules.specs.Bytes.{ones64}
 use Rattle.rules.specs.Trace.{vectorObject, unknownContent, unknownObject}
 use Rattle.rules.specs.TypeTable.{Content}
@@ -117,15 +117,15 @@ rawWords m row size number at next used =
     D.claim m unknownObject row size
     (D.sequence 0 (D.takeHandles m at (unknownContent size number)) (D.elements 8 (λ i. decodeWord m 8) 0 (size / 8))) at next used
 
--- The handle number against the handles taken since: 16.
+-- The handle number against the handles taken since: 28.
 abbrev pub handlesSealed : Message → (at used n u : ℕ) → Decoded
-handlesSealed m at used n u = D.require (eqb (handleNumber m at) (u - used)) (fault envelopeNumberWrong (Byte at)) (went n u [] [])
+handlesSealed m at used n u = D.require (eqb (handleNumber m at) (u - used)) (fault handleNumberWrong (Byte at)) (went n u [] [])
 
--- After a known payload of so many bytes: in line, its fill up to four (7); out of line, its byte number (16); then 16.
+-- After a known payload of so many bytes: in line, its fill up to four (7); out of line, its byte number (16); then its handle number (28).
 unfoldable pub sealedAt : Message → (size at next used n u : ℕ) → Decoded
 sealedAt m size at next used n u =
     let filled = D.andThen (D.fill m (4 - size) (at + size) n u) (λ n₁ u₁. handlesSealed m at used n₁ u₁) in
-    let covered = D.require (eqb (lowWord m at) (n - next)) (fault envelopeNumberWrong (Byte at)) (handlesSealed m at used n u) in
+    let covered = D.require (eqb (lowWord m at) (n - next)) (fault byteNumberWrong (Byte at)) (handlesSealed m at used n u) in
     if leb size 4 then filled else covered
 
 -- A known payload's value, and then the above.

@@ -223,7 +223,7 @@ pub fn known_opened(
     deeper(bytes, objects, depth, 5, payload, 1, size, at, c)
 }
 
-// After a known payload: in line 7, out of line 16 for its byte number; then 16 for its handle number.
+// After a known payload: in line 7, out of line 16 for its byte number; then 28 for its handle number.
 pub fn sealed(bytes: &[u8], size: usize, at: usize, next: usize, used: usize, c: Cursor) -> Walked
     requires { ⌜ (at < 4294967296) × (size ≤ 65528) × (next ≤ c .next) × (used ≤ c .handles) ⌝ }
     ensures { λ r. ⌜ SealDid (now (bytes .entry)) size at next used c r ⌝ }
@@ -243,13 +243,13 @@ pub fn sealed(bytes: &[u8], size: usize, at: usize, next: usize, used: usize, c:
     handles_sealed(bytes, at, used, c)
 }
 
-// The handle number against the handles taken since: 16.
+// The handle number against the handles taken since: 28.
 fn handles_sealed(bytes: &[u8], at: usize, used: usize, c: Cursor) -> Walked
     requires { ⌜ (at < 4294967296) × (used ≤ c .handles) ⌝ }
     ensures { λ r. ⌜ DidNeither (now (bytes .entry)) 0 at c r (λ m at. handlesSealed m at used) ⌝ }
 {
     if words::load16(bytes, at + 4) as usize != c.handles - used {
-        return refused(16, at);
+        return refused(28, at);
     }
     Walked::On(c)
 }

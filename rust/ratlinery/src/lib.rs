@@ -1,7 +1,7 @@
 //! Ratlinery, a proved codec for FIDL messages with 8-byte envelopes, under a type table that is handed in at run time.
 //!
 //! Every function here is safe and total: any table, message, list and number gets an answer. What is refused gets a
-//! [`Refusal`]: a number from 1 to 26, the place that was judged, and a sentence for a person.
+//! [`Refusal`]: its number, the place that was judged, and a sentence for a person.
 //!
 //! ```
 //! use ratlinery::{Content, Object, ObjectKind, Refusal, TypeTable, Value, row};

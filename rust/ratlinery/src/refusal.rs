@@ -21,7 +21,7 @@ pub enum Reason {
     NotUtf8 = 13,
     TooFewHandles = 14,
     BadEnvelope = 15,
-    BadEnvelopeNumbers = 16,
+    BadByteNumber = 16,
     UnknownOrdinal = 17,
     UnionWithoutContent = 18,
     LastEnvelopeAbsent = 19,
@@ -32,12 +32,13 @@ pub enum Reason {
     OrdinalZero = 24,
     EpitaphTransaction = 25,
     NotAValue = 26,
+    BadHandleNumber = 28,
 }
 
 use Reason::*;
 
-/// Each reason in the order of the numbers, with a sentence for a person.
-const SENTENCES: [(Reason, &str); 26] = [
+/// Each reason, in the order of the numbers, with a sentence for a person.
+const SENTENCES: [(Reason, &str); 27] = [
     (TableNotSound, "the type table is not sound"),
     (RootNotAllowed, "there is no such row, or it may not be a root"),
     (TooManyBytes, "the message has more than 65,536 bytes"),
@@ -56,7 +57,7 @@ const SENTENCES: [(Reason, &str); 26] = [
         BadEnvelope,
         "an envelope's flags are wrong, or its payload is in line and should not be, or the other way round",
     ),
-    (BadEnvelopeNumbers, "an envelope's byte number or handle number is wrong"),
+    (BadByteNumber, "an envelope's byte number is wrong"),
     (UnknownOrdinal, "a strict union has an ordinal that its type does not know"),
     (UnionWithoutContent, "a union has an ordinal and no content"),
     (LastEnvelopeAbsent, "a table's last envelope is absent"),
@@ -67,23 +68,23 @@ const SENTENCES: [(Reason, &str); 26] = [
     (OrdinalZero, "the header's ordinal is 0"),
     (EpitaphTransaction, "an epitaph has a transaction number"),
     (NotAValue, "the list is not a value of the root's type"),
+    (BadHandleNumber, "an envelope's handle number is wrong"),
 ];
 
 impl Reason {
-    /// The number, 1 to 26.
+    /// The number: 1 to 26, or 28.
     pub fn number(self) -> u32 {
         self as u32
     }
 
-    /// The reason with a number, 1 to 26.
+    /// The reason with a number, if there is one.
     pub fn from_number(number: u32) -> Option<Self> {
-        let index = number.checked_sub(1)?;
-        SENTENCES.get(index as usize).map(|&(reason, _)| reason)
+        SENTENCES.iter().map(|&(reason, _)| reason).find(|reason| reason.number() == number)
     }
 
     /// What is wrong, as a sentence for a person.
     pub fn sentence(self) -> &'static str {
-        SENTENCES[self as usize - 1].1
+        SENTENCES.iter().find(|&&(reason, _)| reason == self).map_or("", |&(_, sentence)| sentence)
     }
 }
 
@@ -129,7 +130,7 @@ pub struct Refusal {
 }
 
 impl Refusal {
-    /// The number, 1 to 26.
+    /// The number: 1 to 26, or 28.
     pub fn number(&self) -> u32 {
         self.reason.number()
     }
@@ -174,7 +175,7 @@ pub(crate) fn judged(side: Side, number: u32, place: u64) -> Result<(), Refusal>
     if number == 0 {
         return Ok(());
     }
-    let reason = Reason::from_number(number).expect("the library returns 0 to 26");
+    let reason = Reason::from_number(number).expect("a number of the library's");
     let place = match (reason, side) {
         (TableNotSound | RootNotAllowed, _) => Place::Row(place),
         (HandlesLeft | RoomTooSmall, _) | (TooManyHandles, Side::Reader) => Place::Amount(place),
@@ -190,12 +191,12 @@ mod tests {
 
     #[test]
     fn reasons_and_numbers_go_together() {
-        for number in 1..=26 {
+        let numbers: Vec<u32> = (0..100).filter(|&number| Reason::from_number(number).is_some()).collect();
+        assert_eq!(numbers, (1..=26).chain([28]).collect::<Vec<_>>());
+        for number in numbers {
             let reason = Reason::from_number(number).unwrap();
             assert_eq!(reason.number(), number);
             assert!(!reason.sentence().is_empty());
         }
-        assert_eq!(Reason::from_number(0), None);
-        assert_eq!(Reason::from_number(27), None);
     }
 }

@@ -369,13 +369,13 @@ impl<'m> Decoder<'_, 'm> {
         if in_line {
             let value = self.value(row, envelope.at, depth)?;
             self.zero(envelope.at + size, envelope.at + 4)?;
-            require(self.used - used == envelope.handles(), 16, envelope.at)?;
+            require(self.used - used == envelope.handles(), 28, envelope.at)?;
             return Ok(Content::Known { row, at: None, value });
         }
         let start = self.claim(size as u64)?;
         let value = self.value(row, start, depth)?;
-        let numbers = ((self.next - start) as u64, self.used - used);
-        require(numbers == (envelope.low(), envelope.handles()), 16, envelope.at)?;
+        require((self.next - start) as u64 == envelope.low(), 16, envelope.at)?;
+        require(self.used - used == envelope.handles(), 28, envelope.at)?;
         Ok(Content::Known { row, at: Some(start), value })
     }
 

@@ -1,6 +1,6 @@
-//! Document 01, "Numbers and places".
+//! Document 01, "Numbers and places", and the numbers of document 02.
 
-/// A refusal: its number, 1 to 26, and its place.
+/// A refusal: its number and its place.
 #[derive(Clone, Copy, Debug, PartialEq, Eq)]
 pub struct Refusal {
     pub number: u32,

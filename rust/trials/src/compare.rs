@@ -5,8 +5,8 @@ use ratlinery_reference::face::{Face, Table};
 use ratlinery_reference::{Epitaph, Header, Message};
 use std::collections::BTreeMap;
 
-/// How often each function gave each number, 0 to 26.
-pub type Tally = BTreeMap<&'static str, [u64; 27]>;
+/// How often each function gave each number.
+pub type Tally = BTreeMap<&'static str, BTreeMap<u32, u64>>;
 
 /// What differs.
 pub type Different = String;
@@ -119,7 +119,7 @@ impl<'f> Compare<'f> {
                 answers.given(stored)
             )
         })?;
-        self.tally.entry(function).or_insert([0; 27])[number as usize] += 1;
+        *self.tally.entry(function).or_default().entry(number).or_default() += 1;
         let [place, ref results @ ..] = expected;
         Ok(Given { number, place, results: *results })
     }

@@ -9,6 +9,7 @@ use ratlinery_reference::face::Reference;
 use ratlinery_trials::cases;
 use ratlinery_trials::compare::{Compare, Tally};
 use ratlinery_trials::library::Library;
+use std::collections::{BTreeMap, BTreeSet};
 use std::process::ExitCode;
 use std::time::Instant;
 
@@ -35,7 +36,7 @@ fn main() -> ExitCode {
             }
         }
     }
-    let calls: u64 = compare.tally.values().flatten().sum();
+    let calls: u64 = compare.tally.values().flat_map(BTreeMap::values).sum();
     let seconds = start.elapsed().as_secs_f64();
     print_tally(&compare.tally);
     println!(
@@ -48,18 +49,21 @@ fn main() -> ExitCode {
     if differences == 0 && missing.is_empty() { ExitCode::SUCCESS } else { ExitCode::FAILURE }
 }
 
-fn total(tally: &Tally, number: usize) -> u64 {
-    tally.values().map(|counts| counts[number]).sum()
+/// How often a function gave a number.
+fn given(tally: &Tally, function: &str, number: u32) -> u64 {
+    tally.get(function).and_then(|counts| counts.get(&number)).copied().unwrap_or(0)
 }
 
 /// Each function with the numbers that it can give.
-fn can_give() -> [(&'static str, Vec<usize>); 9] {
+fn can_give() -> [(&'static str, Vec<u32>); 9] {
+    let judged: Vec<u32> = (0..=21).chain([28]).collect();
+    let read: Vec<u32> = judged.iter().copied().chain([22]).collect();
     [
         ("layout", vec![0, 1, 2]),
-        ("check", (0..=21).collect()),
-        ("read", (0..=22).collect()),
-        ("read_values", (0..=22).collect()),
-        ("read_objects", (0..=22).collect()),
+        ("check", judged),
+        ("read", read.clone()),
+        ("read_values", read.clone()),
+        ("read_objects", read),
         ("write", vec![0, 1, 2, 3, 4, 5, 22, 26]),
         ("header_read", vec![0, 3, 6, 7, 20, 23, 24, 25]),
         ("header_write", vec![0, 22, 24, 25]),
@@ -71,22 +75,23 @@ fn can_give() -> [(&'static str, Vec<usize>); 9] {
 fn missing(tally: &Tally) -> Vec<String> {
     let mut missing = Vec::new();
     for (function, numbers) in can_give() {
-        let given = |number: usize| tally.get(function).is_some_and(|counts| counts[number] != 0);
-        let never = numbers.into_iter().filter(|&number| !given(number));
+        let never = numbers.into_iter().filter(|&number| given(tally, function, number) == 0);
         missing.extend(never.map(|number| format!("{number} by {function}")));
     }
     missing
 }
 
-/// A line for each number, a column for each function.
+/// A line for each number that was given, a column for each function.
 fn print_tally(tally: &Tally) {
     print!("number {:>13}", "all");
     tally.keys().for_each(|function| print!(" {function:>13}"));
     println!();
-    for number in 0..=26 {
-        print!("{number:>6} {:>13}", total(tally, number));
-        for counts in tally.values() {
-            match counts[number] {
+    let numbers: BTreeSet<u32> = tally.values().flat_map(BTreeMap::keys).copied().collect();
+    for number in numbers {
+        let all: u64 = tally.keys().map(|function| given(tally, function, number)).sum();
+        print!("{number:>6} {all:>13}");
+        for function in tally.keys() {
+            match given(tally, function, number) {
                 0 => print!(" {:>13}", "."),
                 count => print!(" {count:>13}"),
             }
