@@ -35,7 +35,7 @@
  * bits. Handle: 1 or 0. Vector, string: 0 absent, else count plus 1 and the elements or bytes. Box: 0, or 1 and the
  * struct. Table: the highest present ordinal (0 if none), then for each ordinal up to it 0, or 1 and its content. Union:
  * 0, or ordinal and content. Content of an ordinal that the table's or union's row does not list: byte number (0 for
- * content in line), handle number, then the 4-byte word or all 8-byte words.
+ * content in line), handle number (at most one for four bytes of content), then the 4-byte word or all 8-byte words.
  *
  * Object list. Four 32-bit numbers an object, in the order of the message: kind, row, offset, length without the fill
  * after it. Kinds: 1 the root, 2 a vector's or string's content (row of that), 3 a boxed struct, 4 a table's envelopes
@@ -92,7 +92,8 @@ enum {
     RATLINERY_ORDINAL_ZERO = 24,          /* a header's ordinal is 0 | 8 */
     RATLINERY_EPITAPH_TRANSACTION = 25,   /* an epitaph has a transaction number | 0 */
     RATLINERY_NOT_A_VALUE = 26,           /* the value list is no value of the root | index */
-    RATLINERY_BAD_HANDLE_NUMBER = 28      /* an envelope's handle number is wrong | envelope */
+    RATLINERY_BAD_HANDLE_NUMBER = 28,     /* an envelope's handle number is wrong | envelope */
+    RATLINERY_IMPOSSIBLE_HANDLES = 35     /* unknown content claims more handles than it has room for | envelope */
 };
 
 /* The layout of a row of any kind.
@@ -103,7 +104,7 @@ uint32_t ratlinery_layout(const uint32_t *rows, size_t rows_len, const uint32_t 
 
 /* Is a message, with its number of handles, one of the root's type? Any 64-bit number of handles may be asked about.
  * answer: place.
- * Refusals: 1, 2, 3, 4, in this order; 5 to 19, 28; 20, 21. */
+ * Refusals: 1, 2, 3, 4, in this order; 5 to 19, 28, 35; 20, 21. */
 uint32_t ratlinery_check(const uint32_t *rows, size_t rows_len, const uint32_t *members, size_t members_len,
                          uint32_t root, const uint8_t *message, size_t message_len, uint64_t handles,
                          uint64_t *answer, size_t answer_len);

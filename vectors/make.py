@@ -15,7 +15,7 @@ import sys
 
 HERE = pathlib.Path(__file__).resolve().parent
 CRATES = HERE.parent / "crates"
-FILES = ("text.txt", "base.txt", "conformance.txt", "document.txt", "circle.txt", "W-203.txt", "W-208.txt")
+FILES = ("text.txt", "base.txt", "conformance.txt", "document.txt", "circle.txt", "W-203.txt", "W-208.txt", "W-209.txt")
 
 # The operations that `cases` runs, in the order of their numbers, from 1 on.
 RUN = ("is_utf8", "sound", "layout", "header_read", "header_write", "check", "read", "write", "epitaph_write")

@@ -193,6 +193,7 @@ module _ (rows members : List ℕ) (root : ℕ) where
         fillsAreZero = c .fillsAreZero;
         handlesAddUp = c .handlesAddUp;
         presentHandlesAreOnes = c .presentHandlesAreOnes;
+        unknownClaimsFit = c .unknownClaimsFit;
       }
 
   -- What was given into a list is written to the message.

@@ -9,6 +9,7 @@ use lib.ListN.{length, take, drop}
 use Rattle.rules.specs.Bytes.{Octets}
 use Rattle.rules.specs.TypeTable.{typeTable}
 use Rattle.rules.specs.Trace.{Event, objectList, presentHandles, unknownHandles, unknownOutOfLine, Tiles, FillsAreZero, unknownLengths, PresentHandlesAreOnes}
+use Rattle.rules.specs.Envelope.{UnknownClaimsFit}
 use Rattle.rules.specs.Decode.{traceOf}
 use Rattle.rules.specs.Answers.{walk}
 use Rattle.reader.specs.declared.Verdict.{Verdict}
@@ -87,6 +88,8 @@ module _ (rows members : List ℕ) (root : ℕ) where
     pub handlesAddUp : handles ≡ presentHandles trace + unknownHandles trace
     -- "A present handle is a handle's word of all ones met in the walk"
     pub presentHandlesAreOnes : PresentHandlesAreOnes message trace
+    -- W-209: "an unknown payload may claim at most one handle in line, and at most a quarter of its byte number out of line"
+    pub unknownClaimsFit : UnknownClaimsFit trace
 
   pub record Demand3 : Type 0 where
     -- "two accepted messages hold equal values exactly when bytes and handle counts are equal"

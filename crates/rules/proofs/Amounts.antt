@@ -21,7 +21,7 @@ use Rattle.rules.specs.Trace.{Event, claimed, presentHandle, unknownCont
 use Rattle.rules.specs.Decode as D
 use Rattle.rules.specs.Decode.{Message, Decoded, went, stopped, Decoder, ReadRecord, got, wrong}
 use Rattle.rules.specs.Records.{anyPattern, boolPattern, ordinalPattern, readNumber, readPresence, readCount, readTable}
-use Rattle.rules.specs.Envelope.{decodeWord, inLine, outOfLine, lowWord, handleNumber, flags, byteNumbered, flagged, knownAs, wholeWords, unknownInLine, unknownOutOfLine, unknownEnvelope, contentOfEightBytes, decodeContent}
+use Rattle.rules.specs.Envelope.{decodeWord, inLine, outOfLine, payloadInLine, claimable, lowWord, handleNumber, flags, byteNumbered, flagged, knownAs, wholeWords, unknownInLine, unknownOutOfLine, unknownEnvelope, contentOfEightBytes, decodeContent}
 use Rattle.rules.specs.Walk as W
 use Rattle.rules.specs.Answers.{walk, Reading, judged}
 use Rattle.rules.proofs.Bytes.{padded-above}
@@ -195,8 +195,9 @@ module _ (m : Message) where
   unfolding unknownEnvelope
   gives-unknown row deep = record {
     few = λ at next used.
-        within-if (eqb (flags m at) inLine) (gives-unknown-in-line at deep .few at next used)
-        (within-require (eqb (flags m at) outOfLine && wholeWords m (lowWord m at)) _ (gives-unknown-out-of-line row at deep .few at next used));
+        within-if (eqb (flags m at) inLine) (within-require (claimable payloadInLine (handleNumber m at)) _ (gives-unknown-in-line at deep .few at next used))
+        (within-require (eqb (flags m at) outOfLine && wholeWords m (lowWord m at)) _
+        (within-require (claimable (lowWord m at) (handleNumber m at)) _ (gives-unknown-out-of-line row at deep .few at next used)));
   }
 
   -- ---- any edition

@@ -7,12 +7,14 @@ use Rattle.rules.specs.Sound.{structMembers, risingMembers, rowFits, row
 use Rattle.rules.specs.Text.{follows, isUtf8}
 use Rattle.rules.specs.Trace.{objectList}
 use Rattle.rules.specs.Decode as D
-use Rattle.rules.specs.Records.{readNumber, presence, readPresence, readCount, readTable}
-use Rattle.rules.specs.Envelope.{decodeWord, byteNumbered, flagged, unknownEnvelope, contentOfEightBytes, decodeContent}
+use Rattle.rules.specs.Encode as E
+use Rattle.rules.specs.Records.{readNumber, writeNumber, presence, readPresence, writePresence, readCount, writeCount, readTable, writeTable}
+use Rattle.rules.specs.Envelope.{decodeWord, encodeWord, byteNumbered, writeByteNumber, flagged, writeFlags, unknownEnvelope, writeWords, writeUnknownInLine, writeUnknownOutOfLine, writeUnknown, contentOfEightBytes, writeContentOfEightBytes, decodeContent, encodeContent}
 use Rattle.rules.specs.Walk as W
-use Rattle.rules.specs.Answers.{walk, judged, check, readValues, readObjects, read}
+use Rattle.rules.specs.Answers.{walk, judged, check, readValues, readObjects, read, encode, written}
 use Rattle.rules.specs.Header.{readHeader}
 use Rattle.rules.specs.Cases.{CasesHold, SlipsShow, EpitaphCasesHold, RequestsHold}
+use Rattle.rules.specs.Writer as R
 
 pub cases-hold : CasesHold
 unfolding littleEndian part word leadingZeros roundUp padded envelopeSize typeOf memberRows contentOf below largestAlignment fieldsFrom fieldsOf fieldsSize structSize layoutAs layoutBelow layoutOf structMembers risingMembers rowFits rowSound rowsSound soundness rootAllowed follows isUtf8 objectList D.sequence D.elements D.recordThen D.checked D.fill D.claim D.takeHandles D.optionalEnvelope D.lastPresent D.zeroEnvelope D.presentEnvelope readNumber presence readPresence readCount readTable decodeWord byteNumbered flagged unknownEnvelope contentOfEightBytes decodeContent W.fields W.structFields W.decodeAs W.decodeBelow W.decodeRow W.levels walk judged check readValues readObjects read
@@ -27,5 +29,5 @@ unfolding littleEndian bytesOf part word zeros leadingZeros readHeader
 epitaph-cases-hold = (refl, refl, refl, refl, refl)
 
 pub requests-hold : RequestsHold
-unfolding bytesOf littleEndian part word leadingZeros roundUp padded envelopeSize typeOf memberRows contentOf below largestAlignment fieldsFrom fieldsOf fieldsSize structSize layoutAs layoutBelow layoutOf structMembers risingMembers rowFits rowSound rowsSound soundness rootAllowed follows isUtf8 objectList D.sequence D.elements D.recordThen D.checked D.fill D.claim D.takeHandles D.optionalEnvelope D.lastPresent D.zeroEnvelope D.presentEnvelope readNumber presence readPresence readCount readTable decodeWord byteNumbered flagged unknownEnvelope contentOfEightBytes decodeContent W.fields W.structFields W.decodeAs W.decodeBelow W.decodeRow W.levels walk judged check readValues readObjects read
+unfolding bytesOf zeros littleEndian part word leadingZeros roundUp padded envelopeSize typeOf memberRows contentOf below largestAlignment fieldsFrom fieldsOf fieldsSize structSize layoutAs layoutBelow layoutOf structMembers risingMembers rowFits rowSound rowsSound soundness rootAllowed follows isUtf8 objectList D.sequence D.elements D.recordThen D.checked D.fill D.claim D.takeHandles D.optionalEnvelope D.lastPresent D.zeroEnvelope D.presentEnvelope readNumber presence readPresence readCount readTable decodeWord byteNumbered flagged unknownEnvelope contentOfEightBytes decodeContent W.fields W.structFields W.decodeAs W.decodeBelow W.decodeRow W.levels walk judged check readValues readObjects read E.sequence E.elements E.numberThen E.recordThen E.checked E.inlineBytes E.claim E.takeHandles E.optionalEnvelope writeNumber writePresence writeCount writeTable encodeWord writeByteNumber writeFlags writeWords writeUnknownInLine writeUnknownOutOfLine writeUnknown writeContentOfEightBytes encodeContent R.fields R.structFields R.encodeAs R.encodeBelow R.encodeRow R.levels encode written
 requests-hold = refl

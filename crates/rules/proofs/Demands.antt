@@ -266,6 +266,7 @@ module _ (t : TypeTable) (root : ℕ) where
         fillsAreZero = met .0;
         handlesAddUp = s .handles;
         presentHandlesAreOnes = met .1;
+        unknownClaimsFit = met .2;
       }
 
   same-written : (values bytes bytes₂ : List ℕ) (handles handles₂ : ℕ) → IsWrittenTo t root values bytes handles → IsWrittenTo t root values bytes₂ handles₂ → (bytes ≡ bytes₂) × (handles ≡ handles₂)

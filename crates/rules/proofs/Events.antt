@@ -1,9 +1,9 @@
--- What a part of the walk meets is so in the message: the fill of every object that is claimed is zero, and the word of every
--- present handle is all ones. It holds whether the part goes on or is stopped: an event comes after the test that it is about.
+-- What a part of the walk meets is so in the message: the fill of every object that is claimed is zero, the word of every
+-- present handle is all ones, and unknown content has room for the handles that it claims. It holds whether the part goes on or is stopped: an event comes after the test that it is about.
 use mathlib.Core.Path.{_≡_, refl}
 use mathlib.Core.Bool.{Bool, true, false, not}
 use mathlib.Core.List.{List, [], _∷_, _++_}
-use Prim.Native.Nat.{ℕ, zero, suc, _+_, _-_, _*_}
+use Prim.Native.Nat.{ℕ, zero, suc, _+_, _-_, _*_, _≤_}
 use native.Mathlib.Omega.{arith}
 use lib.Dec.{leb, eqb}
 use borrow.Author.Tests.{leb-true}
@@ -16,37 +16,37 @@ use Rattle.rules.specs.Trace.{Event, claimed, presentHandle, unknownCont
 use Rattle.rules.specs.Decode as D
 use Rattle.rules.specs.Decode.{Message, Decoded, went, stopped, traceOf, Decoder, ReadRecord, got, wrong}
 use Rattle.rules.specs.Records.{anyPattern, readNumber}
-use Rattle.rules.specs.Envelope.{decodeWord, lowWord, handleNumber, flags, byteNumbered, flagged}
+use Rattle.rules.specs.Envelope.{unknownPayload, UnknownClaimsFit, decodeWord, lowWord, handleNumber, flags, byteNumbered, flagged}
 use Rattle.rules.proofs.Bytes.{zeros-length, padded-above}
 use Rattle.rules.proofs.Twins.{standing-zero}
 
 -- ---- traces
 
 abbrev pub Met : (bytes : List ℕ) (trace : List Event) → Type 0
-Met bytes trace = FillsAreZero bytes (objectList trace) × PresentHandlesAreOnes bytes trace
+Met bytes trace = FillsAreZero bytes (objectList trace) × PresentHandlesAreOnes bytes trace × UnknownClaimsFit trace
 
 met-nil : (bytes : List ℕ) → Met bytes []
-unfolding objectList FillsAreZero PresentHandlesAreOnes
-met-nil bytes = (tt, tt)
+unfolding objectList FillsAreZero PresentHandlesAreOnes UnknownClaimsFit
+met-nil bytes = (tt, tt, tt)
 
 met-append : (bytes : List ℕ) (s t : List Event) → Met bytes s → Met bytes t → Met bytes (s ++ t)
-unfolding objectList FillsAreZero PresentHandlesAreOnes
+unfolding objectList FillsAreZero PresentHandlesAreOnes UnknownClaimsFit
 met-append bytes [] t x y = y
-met-append bytes (claimed kind row offset length ∷ s) t x y = let r = met-append bytes s t (x .0 .1, x .1) y in ((x .0 .0, r .0), r .1)
-met-append bytes (presentHandle at ∷ s) t x y = let r = met-append bytes s t (x .0, x .1 .1) y in (r .0, (x .1 .0, r .1))
-met-append bytes (unknownContent byte-number handles ∷ s) t x y = met-append bytes s t x y
+met-append bytes (claimed kind row offset length ∷ s) t x y = let r = met-append bytes s t (x .0 .1, x .1, x .2) y in ((x .0 .0, r .0), r .1, r .2)
+met-append bytes (presentHandle at ∷ s) t x y = let r = met-append bytes s t (x .0, x .1 .1, x .2) y in (r .0, (x .1 .0, r .1), r .2)
+met-append bytes (unknownContent byte-number handles ∷ s) t x y = let r = met-append bytes s t (x .0, x .1, x .2 .1) y in (r .0, r .1, (x .2 .0, r .2))
 
 met-claim : (bytes : List ℕ) (kind row offset size : ℕ) → part bytes (offset + size) (padded size - size) ≡ zeros (padded size - size) → Met bytes (claimed kind row offset size ∷ [])
-unfolding objectList FillsAreZero PresentHandlesAreOnes
-met-claim bytes kind row offset size e = ((e, tt), tt)
+unfolding objectList FillsAreZero PresentHandlesAreOnes UnknownClaimsFit
+met-claim bytes kind row offset size e = ((e, tt), tt, tt)
 
 pub met-handle : (bytes : List ℕ) (at : ℕ) → word bytes at 4 ≡ ones32 → Met bytes (presentHandle at ∷ [])
-unfolding objectList FillsAreZero PresentHandlesAreOnes
-met-handle bytes at e = (tt, (e, tt))
+unfolding objectList FillsAreZero PresentHandlesAreOnes UnknownClaimsFit
+met-handle bytes at e = (tt, (e, tt), tt)
 
-pub met-unknown : (bytes : List ℕ) (byte-number handles : ℕ) → Met bytes (unknownContent byte-number handles ∷ [])
-unfolding objectList FillsAreZero PresentHandlesAreOnes
-met-unknown bytes byte-number handles = (tt, tt)
+pub met-unknown : (bytes : List ℕ) (byte-number handles : ℕ) → handles * 4 ≤ unknownPayload byte-number → Met bytes (unknownContent byte-number handles ∷ [])
+unfolding objectList FillsAreZero PresentHandlesAreOnes UnknownClaimsFit
+met-unknown bytes byte-number handles h = (tt, tt, (h, tt))
 
 module _ (m : Message) where
   -- ---- results

@@ -9,7 +9,7 @@ use lib.Dec.{leb, ltb, eqb}
 use borrow.Author.Tests.{leb-true, le-leb, ltb-true, lt-ltb, eqb-true, eqb-false, ne-eqb}
 use lib.ListN.{length, length-append}
 use Rattle.rules.specs.declared.Place.the-variants.{Byte}
-use Rattle.rules.specs.Refusals.{if_then_else_, fault, objectDoesNotFit, envelopeFormWrong, messageTooLong, notAValue}
+use Rattle.rules.specs.Refusals.{if_then_else_, fault, objectDoesNotFit, envelopeFormWrong, handlesImpossible, messageTooLong, notAValue}
 use Rattle.rules.specs.Bytes.{Octets, word, bytesOf, zeros, padded}
 use Rattle.rules.specs.Trace.{Event, claimed, unknownContent, unknownObject, objectList, presentHandles, unknownHandles, unknownOutOfLine, unknownLengths, Tiles}
 use Rattle.rules.specs.Decode as D
@@ -17,7 +17,7 @@ use Rattle.rules.specs.Decode.{Message, Decoded, went, Decoder}
 use Rattle.rules.specs.Encode as E
 use Rattle.rules.specs.Encode.{wrote, Encoder}
 use Rattle.rules.specs.Records.{anyPattern}
-use Rattle.rules.specs.Envelope.{decodeWord, encodeWord, inLine, outOfLine, envelopeBytes, lowWord, handleNumber, flags, wholeWords, unknownEnvelope, byteNumberFits, handleNumberFits, wordFits, writeWords, writeUnknownInLine, writeUnknownOutOfLine}
+use Rattle.rules.specs.Envelope.{decodeWord, encodeWord, inLine, outOfLine, payloadInLine, envelopeBytes, lowWord, handleNumber, flags, wholeWords, unknownEnvelope, byteNumberFits, handleNumberFits, wordFits, writeWords, writeUnknownInLine, writeUnknownOutOfLine}
 use Rattle.rules.proofs.Tests.{both}
 use Rattle.rules.proofs.Bytes.{StandsAt, stands-nil, stands-left, stands-right, stands-join, octets-append, octets-bytesOf, octets-nil, bytesOf-length, word-standing, standing-word, word-below, word-add, word-zeros, padded-above}
 use Rattle.rules.proofs.Results.{cannot-not-wrote, require-inv, write-require-inv, After, after-inv, WriteAfter, write-after-inv, Then, then-inv, WriteThen, write-then-inv, Took, took, took-inv, Taken, taken, taken-inv, AsObject, object, object-inv}
@@ -88,13 +88,23 @@ taken-then-inv : (count : ℕ) (k : Encoder) (vs : List ℕ) (n u : ℕ) {inl oo
 unfolding E.sequence
 taken-then-inv count k vs n u e = taken-then-go (write-then-inv (E.takeHandles count vs n u) k e)
 
+-- A handle number that the writer takes.
+record Fits (payload h : ℕ) : Type 0 where
+  small : h < 65536
+  room : h * 4 ≤ payload
+
+fits-of : (payload h : ℕ) → handleNumberFits payload h ≡ true → Fits payload h
+fits-of payload h e =
+    let i = both (ltb h 65536) (leb (h * 4) payload) e in
+    record { small = ltb-true h 65536 (i .0); room = leb-true (h * 4) payload (i .1) }
+
 -- Unknown content that was written, in line or out of line.
 data Wrote (n u : ℕ) (rest : List ℕ) : ℕ → ℕ → List ℕ → List ℕ → List ℕ → Type 0 where
-  inside : {h w : ℕ} → h < 65536 → u + h ≤ 64 → w < 4294967296 → Wrote n u rest n (u + h) (0 ∷ h ∷ w ∷ rest) (envelopeBytes w h inLine) []
-  outside : {x h n₁ u₁ : ℕ} {vs inl ool : List ℕ} → 0 < x → x % 8 ≡ 0 → x < 4294967296 → leb (n + padded x) 65536 ≡ true → h < 65536 → u + h ≤ 64
+  inside : {h w : ℕ} → Fits payloadInLine h → u + h ≤ 64 → w < 4294967296 → Wrote n u rest n (u + h) (0 ∷ h ∷ w ∷ rest) (envelopeBytes w h inLine) []
+  outside : {x h n₁ u₁ : ℕ} {vs inl ool : List ℕ} → 0 < x → x % 8 ≡ 0 → x < 4294967296 → leb (n + padded x) 65536 ≡ true → Fits x h → u + h ≤ 64
       → AsObject x (E.elements (λ i. encodeWord 8) 0 (x / 8) vs (n + padded x) (u + h)) n₁ u₁ rest inl ool → Wrote n u rest n₁ u₁ (x ∷ h ∷ vs) (envelopeBytes x h outOfLine) ool
 
-inside-word : {h n u n₁ u₁ : ℕ} {vs rest inl ool : List ℕ} → h < 65536 → u + h ≤ 64
+inside-word : {h n u n₁ u₁ : ℕ} {vs rest inl ool : List ℕ} → Fits payloadInLine h → u + h ≤ 64
     → NumberOf wordFits (λ word. E.inlineBytes (envelopeBytes word h inLine)) n (u + h) n₁ u₁ rest vs inl ool → Wrote n u rest n₁ u₁ (0 ∷ h ∷ vs) inl ool
 unfolding E.inlineBytes
 inside-word {h} {n} {u} {n₁} {u₁} {rest = rest} {inl} {ool} a b (number-of {v = w} {vs = vs} c e) =
@@ -105,47 +115,47 @@ inside-word {h} {n} {u} {n₁} {u₁} {rest = rest} {inl} {ool} a b (number-of {
     let t : vs ≡ rest = cc in
     rw (p, q, r, s, t) (inside a b (ltb-true w 4294967296 c))
 
-inside-handles : {h n u n₁ u₁ : ℕ} {vs rest inl ool : List ℕ} → h < 65536
+inside-handles : {h n u n₁ u₁ : ℕ} {vs rest inl ool : List ℕ} → Fits payloadInLine h
     → TakenThen h (E.numberThen wordFits (λ word. E.inlineBytes (envelopeBytes word h inLine))) vs n u n₁ u₁ inl ool rest → Wrote n u rest n₁ u₁ (0 ∷ h ∷ vs) inl ool
 inside-handles {h} {vs = vs} a (taken-then b e) = inside-word a b (number-inv wordFits (λ word. E.inlineBytes (envelopeBytes word h inLine)) vs e)
 
 inside-number : {n u n₁ u₁ : ℕ} {vs rest inl ool : List ℕ}
-    → NumberOf handleNumberFits (λ h. E.sequence (E.takeHandles h) (E.numberThen wordFits (λ word. E.inlineBytes (envelopeBytes word h inLine)))) n u n₁ u₁ rest vs inl ool
+    → NumberOf (handleNumberFits payloadInLine) (λ h. E.sequence (E.takeHandles h) (E.numberThen wordFits (λ word. E.inlineBytes (envelopeBytes word h inLine)))) n u n₁ u₁ rest vs inl ool
     → Wrote n u rest n₁ u₁ (0 ∷ vs) inl ool
 inside-number {n} {u} (number-of {v = h} {vs = vs} a e) =
-    inside-handles (ltb-true h 65536 a) (taken-then-inv h (E.numberThen wordFits (λ word. E.inlineBytes (envelopeBytes word h inLine))) vs n u e)
+    inside-handles (fits-of payloadInLine h a) (taken-then-inv h (E.numberThen wordFits (λ word. E.inlineBytes (envelopeBytes word h inLine))) vs n u e)
 
 inside-inv : (vs : List ℕ) {n u n₁ u₁ : ℕ} {rest inl ool : List ℕ} → writeUnknownInLine vs n u ≡ wrote inl ool n₁ u₁ rest → Wrote n u rest n₁ u₁ (0 ∷ vs) inl ool
 unfolding writeUnknownInLine
-inside-inv vs e = inside-number (number-inv handleNumberFits _ vs e)
+inside-inv vs e = inside-number (number-inv (handleNumberFits payloadInLine) _ vs e)
 
 module _ (x : ℕ) (positive : 0 < x) (whole : x % 8 ≡ 0) (small : x < 4294967296) where
-  outside-object : {h n u n₁ u₁ : ℕ} {vs rest inl ool : List ℕ} → leb (n + padded x) 65536 ≡ true → h < 65536 → u + h ≤ 64
+  outside-object : {h n u n₁ u₁ : ℕ} {vs rest inl ool : List ℕ} → leb (n + padded x) 65536 ≡ true → Fits x h → u + h ≤ 64
       → AsObject x (E.elements (λ i. encodeWord 8) 0 (x / 8) vs (n + padded x) (u + h)) n₁ u₁ rest inl ool
       → Wrote n u rest n₁ u₁ (x ∷ h ∷ vs) (envelopeBytes x h outOfLine ++ inl) ool
   outside-object {h} {n} {u} {n₁} {u₁} {vs} {rest} a b c (object {inl = i} {ool = o} e) =
       let q : envelopeBytes x h outOfLine ++ [] ≡ envelopeBytes x h outOfLine = simp append-nil in
       rw q (outside positive whole small a b c (object e))
 
-  outside-words : {h n u n₁ u₁ : ℕ} {vs rest inl ool : List ℕ} → leb (n + padded x) 65536 ≡ true → h < 65536 → u + h ≤ 64
+  outside-words : {h n u n₁ u₁ : ℕ} {vs rest inl ool : List ℕ} → leb (n + padded x) 65536 ≡ true → Fits x h → u + h ≤ 64
       → WriteAfter (envelopeBytes x h outOfLine) [] (E.asObject x (E.elements (λ i. encodeWord 8) 0 (x / 8) vs (n + padded x) (u + h))) n₁ u₁ rest inl ool
       → Wrote n u rest n₁ u₁ (x ∷ h ∷ vs) inl ool
   outside-words a b c (WriteAfter.after e) = outside-object a b c (object-inv x _ e)
 
-  outside-handles : {h n u n₁ u₁ : ℕ} {vs rest inl ool : List ℕ} → leb (n + padded x) 65536 ≡ true → h < 65536 → TakenThen h (writeWords x h) vs n u n₁ u₁ inl ool rest
+  outside-handles : {h n u n₁ u₁ : ℕ} {vs rest inl ool : List ℕ} → leb (n + padded x) 65536 ≡ true → Fits x h → TakenThen h (writeWords x h) vs n u n₁ u₁ inl ool rest
       → Wrote n u rest n₁ u₁ (x ∷ h ∷ vs) inl ool
   unfolding writeWords
   outside-handles {h} a b (taken-then c e) = outside-words a b c (write-after-inv (envelopeBytes x h outOfLine) [] _ e)
 
   outside-number : {n u n₁ u₁ : ℕ} {vs rest inl ool : List ℕ} → leb (n + padded x) 65536 ≡ true
-      → NumberOf handleNumberFits (λ h. E.sequence (E.takeHandles h) (writeWords x h)) n u n₁ u₁ rest vs inl ool → Wrote n u rest n₁ u₁ (x ∷ vs) inl ool
-  outside-number {n} {u} a (number-of {v = h} {vs = vs} b e) = outside-handles a (ltb-true h 65536 b) (taken-then-inv h (writeWords x h) vs n u e)
+      → NumberOf (handleNumberFits x) (λ h. E.sequence (E.takeHandles h) (writeWords x h)) n u n₁ u₁ rest vs inl ool → Wrote n u rest n₁ u₁ (x ∷ vs) inl ool
+  outside-number {n} {u} a (number-of {v = h} {vs = vs} b e) = outside-handles a (fits-of x h b) (taken-then-inv h (writeWords x h) vs n u e)
 
   outside-inv : (vs : List ℕ) {n u n₁ u₁ : ℕ} {rest inl ool : List ℕ} → writeUnknownOutOfLine x vs n u ≡ wrote inl ool n₁ u₁ rest → Wrote n u rest n₁ u₁ (x ∷ vs) inl ool
   unfolding writeUnknownOutOfLine
   outside-inv vs {n} {u} e =
       let i = write-require-inv (leb (n + padded x) 65536) messageTooLong (E.lastTaken vs) _ e in
-      outside-number (i .0) (number-inv handleNumberFits (λ h. E.sequence (E.takeHandles h) (writeWords x h)) vs (i .1))
+      outside-number (i .0) (number-inv (handleNumberFits x) (λ h. E.sequence (E.takeHandles h) (writeWords x h)) vs (i .1))
 
 abbrev writeContent : Encoder
 writeContent = E.numberThen byteNumberFits (λ bytes. if eqb bytes 0 then writeUnknownInLine else writeUnknownOutOfLine bytes)
@@ -166,16 +176,17 @@ content-inv : (vs : List ℕ) {n u n₁ u₁ : ℕ} {rest inl ool : List ℕ} �
 content-inv vs e = content-number (number-inv byteNumberFits _ vs e)
 
 -- And back: what is so is written so.
-inside-writes : (h w n u : ℕ) (rest : List ℕ) → h < 65536 → u + h ≤ 64 → w < 4294967296
+inside-writes : (h w n u : ℕ) (rest : List ℕ) → Fits payloadInLine h → u + h ≤ 64 → w < 4294967296
     → writeContent (0 ∷ h ∷ w ∷ rest) n u ≡ wrote (envelopeBytes w h inLine) [] n (u + h) rest
 unfolding E.numberThen E.sequence E.takeHandles E.inlineBytes writeUnknownInLine
 inside-writes h w n u rest a b c =
-    let x : ltb h 65536 ≡ true = lt-ltb h 65536 a in
+    let x : ltb h 65536 ≡ true = lt-ltb h 65536 (a .small) in
+    let r : leb (h * 4) 4 ≡ true = le-leb (h * 4) 4 (a .room) in
     let y : leb (u + h) 64 ≡ true = le-leb (u + h) 64 b in
     let z : ltb w 4294967296 ≡ true = lt-ltb w 4294967296 c in
-    rw (x, y, z)
+    rw (x, r, y, z)
 
-outside-writes : (x h n u n₁ u₁ : ℕ) (vs rest inl ool : List ℕ) → 0 < x → x % 8 ≡ 0 → x < 4294967296 → n + padded x ≤ 65536 → h < 65536 → u + h ≤ 64
+outside-writes : (x h n u n₁ u₁ : ℕ) (vs rest inl ool : List ℕ) → 0 < x → x % 8 ≡ 0 → x < 4294967296 → n + padded x ≤ 65536 → Fits x h → u + h ≤ 64
     → E.elements (λ i. encodeWord 8) 0 (x / 8) vs (n + padded x) (u + h) ≡ wrote inl ool n₁ u₁ rest
     → writeContent (x ∷ h ∷ vs) n u ≡ wrote (envelopeBytes x h outOfLine) ((inl ++ zeros (padded x - x)) ++ ool) n₁ u₁ rest
 unfolding E.numberThen E.sequence E.takeHandles writeUnknownOutOfLine writeWords
@@ -183,9 +194,10 @@ outside-writes x h n u n₁ u₁ vs rest inl ool a b c d f g e =
     let p : eqb x 0 ≡ false = ne-eqb x 0 (omega arith) in
     let q : ltb x 4294967296 ≡ true = lt-ltb x 4294967296 c in
     let r : leb (n + padded x) 65536 ≡ true = le-leb (n + padded x) 65536 d in
-    let s : ltb h 65536 ≡ true = lt-ltb h 65536 f in
+    let s : ltb h 65536 ≡ true = lt-ltb h 65536 (f .small) in
+    let v : leb (h * 4) x ≡ true = le-leb (h * 4) x (f .room) in
     let t : leb (u + h) 64 ≡ true = le-leb (u + h) 64 g in
-    rw (b, q, p, r, s, t, e, append-nil)
+    rw (b, q, p, r, s, v, t, e, append-nil)
 
 -- ---- what the walk meets
 
@@ -211,48 +223,50 @@ module _ (m : Message) (oct : Octets (m .bytes)) (short : length (m .bytes) ≤ 
         whole = y .whole;
       }
 
-  inside-run : {at n u h w : ℕ} {rest : List ℕ} → lowWord m at ≡ w → handleNumber m at ≡ h → flags m at ≡ inLine → u + h ≤ m .handles
+  inside-run : {at n u h w : ℕ} {rest : List ℕ} → lowWord m at ≡ w → handleNumber m at ≡ h → flags m at ≡ inLine → h * 4 ≤ payloadInLine → u + h ≤ m .handles
       → Decodes walkContent at n u n (u + h) (0 ∷ h ∷ w ∷ rest) rest
   unfolding unknownEnvelope D.takeHandles
-  inside-run {at} {n} {u} {h} {w} p q r s =
+  inside-run {at} {n} {u} {h} {w} p q r c s =
+      let y : leb (h * 4) 4 ≡ true = le-leb (h * 4) 4 c in
       let z : leb (u + h) (m .handles) ≡ true = le-leb (u + h) (m .handles) s in
-      decodes (0 ∷ h ∷ w ∷ []) (unknownContent 0 h ∷ []) (rw (p, q, r, z))
+      decodes (0 ∷ h ∷ w ∷ []) (unknownContent 0 h ∷ []) (rw (p, q, r, y, z))
 
-  outside-run : {at n u n₁ u₁ x h : ℕ} {vs rest : List ℕ} → lowWord m at ≡ x → handleNumber m at ≡ h → flags m at ≡ outOfLine → 0 < x → x % 8 ≡ 0 → u + h ≤ m .handles
+  outside-run : {at n u n₁ u₁ x h : ℕ} {vs rest : List ℕ} → lowWord m at ≡ x → handleNumber m at ≡ h → flags m at ≡ outOfLine → 0 < x → x % 8 ≡ 0 → h * 4 ≤ x → u + h ≤ m .handles
       → leb (n + padded x) (length (m .bytes)) ≡ true → D.isZero m (n + x) (padded x - x) ≡ true
       → Decodes (D.elements 8 (λ i. decodeWord m 8) 0 (x / 8)) n (n + padded x) (u + h) n₁ u₁ vs rest → Decodes walkContent at n u n₁ u₁ (x ∷ h ∷ vs) rest
   unfolding unknownEnvelope D.takeHandles D.claim D.sequence
-  outside-run {at} {n} {u} {x = x} {h = h} p q r a w s f z (decodes us t e) =
+  outside-run {at} {n} {u} {x = x} {h = h} p q r a w g s f z (decodes us t e) =
+      let y : leb (h * 4) x ≡ true = le-leb (h * 4) x g in
       let c : ltb 0 x ≡ true = lt-ltb 0 x a in
       let d : leb (u + h) (m .handles) ≡ true = le-leb (u + h) (m .handles) s in
-      decodes (x ∷ h ∷ us) (claimed unknownObject row n x ∷ unknownContent x h ∷ t) (rw (p, q, r, w, c, f, z, d, add-zero, e))
+      decodes (x ∷ h ∷ us) (claimed unknownObject row n x ∷ unknownContent x h ∷ t) (rw (p, q, r, w, c, y, f, z, d, add-zero, e))
 
-  outside-decodes : {x h n u n₁ u₁ : ℕ} {vs rest inl ool : List ℕ} → 0 < x → x % 8 ≡ 0 → AsObject x (E.elements (λ i. encodeWord 8) 0 (x / 8) vs (n + padded x) (u + h)) n₁ u₁ rest inl ool
+  outside-decodes : {x h n u n₁ u₁ : ℕ} {vs rest inl ool : List ℕ} → 0 < x → x % 8 ≡ 0 → h * 4 ≤ x → AsObject x (E.elements (λ i. encodeWord 8) 0 (x / 8) vs (n + padded x) (u + h)) n₁ u₁ rest inl ool
       → {at : ℕ} → (lowWord m at ≡ x) × (handleNumber m at ≡ h) × (flags m at ≡ outOfLine) → StandsAt (m .bytes) n ool → u₁ ≤ m .handles
       → Decodes walkContent at n u n₁ u₁ (x ∷ h ∷ vs) rest
-  outside-decodes {x} {h} {n} {u} a w (object {inl = i} {ool = o} e) {at} q k l =
+  outside-decodes {x} {h} {n} {u} a w g (object {inl = i} {ool = o} e) {at} q k l =
       let t = words-twins m oct x w in
       let f = t .wellFormed e in
       let s = object-stands (m .bytes) x n i o (f .sized) k in
-      outside-run (q .0) (q .1) (q .2) a w (omega (arith, f .used)) (le-leb (n + padded x) (length (m .bytes)) (s .fits)) (zero-standing (m .bytes) _ _ (s .filled))
+      outside-run (q .0) (q .1) (q .2) a w g (omega (arith, f .used)) (le-leb (n + padded x) (length (m .bytes)) (s .fits)) (zero-standing (m .bytes) _ _ (s .filled))
       (t .decodesWhatWasEncoded e (s .inline) (s .outOfLine) l)
 
   content-decodes : {n u n₁ u₁ : ℕ} {vs rest inl ool : List ℕ} → Wrote n u rest n₁ u₁ vs inl ool
       → {at : ℕ} → StandsAt (m .bytes) at inl → StandsAt (m .bytes) n ool → u₁ ≤ m .handles → Decodes walkContent at n u n₁ u₁ vs rest
   content-decodes (inside {h = h} {w = w} a c d) {at} s k l =
-      let q = envelope-reads m at w h inLine d a (omega arith) s in
-      inside-run (q .0) (q .1) (q .2) l
-  content-decodes (outside {x = x} {h = h} a w c r d g e) {at} s k l = outside-decodes a w e (envelope-reads m at x h outOfLine c d (omega arith) s) k l
+      let q = envelope-reads m at w h inLine d (a .small) (omega arith) s in
+      inside-run (q .0) (q .1) (q .2) (a .room) l
+  content-decodes (outside {x = x} {h = h} a w c r d g e) {at} s k l = outside-decodes a w (d .room) e (envelope-reads m at x h outOfLine c (d .small) (omega arith) s) k l
 
   -- ---- from what was met to what is written
 
   inside-joined : {at n u n₁ u₁ : ℕ} {vs : List ℕ} {t : List Event} → Took m (unknownContent 0 (handleNumber m at)) n u n₁ u₁ vs t
-      → flags m at ≡ inLine → at + 8 ≤ length (m .bytes) → n ≤ length (m .bytes) → (rest : List ℕ) → Encodes m writeContent at n u n₁ u₁ (0 ∷ handleNumber m at ∷ lowWord m at ∷ vs) t rest
+      → flags m at ≡ inLine → Fits payloadInLine (handleNumber m at) → at + 8 ≤ length (m .bytes) → n ≤ length (m .bytes) → (rest : List ℕ) → Encodes m writeContent at n u n₁ u₁ (0 ∷ handleNumber m at ∷ lowWord m at ∷ vs) t rest
   unfolding objectList presentHandles unknownHandles unknownOutOfLine unknownLengths Tiles
-  inside-joined {at} {n} {u} (took i) f l k rest = record {
+  inside-joined {at} {n} {u} (took i) f c l k rest = record {
     inl = envelopeBytes (lowWord m at) (handleNumber m at) inLine;
     ool = [];
-    writes = inside-writes (handleNumber m at) (lowWord m at) n u rest (word-below (m .bytes) (at + 4) 2 oct (omega arith)) (omega arith) (word-below (m .bytes) at 4 oct (omega arith));
+    writes = inside-writes (handleNumber m at) (lowWord m at) n u rest c (omega arith) (word-below (m .bytes) at 4 oct (omega arith));
     inline = envelope-stands m at inLine oct l f;
     outOfLine = stands-nil (m .bytes) n k;
     tiles = refl;
@@ -262,23 +276,23 @@ module _ (m : Message) (oct : Octets (m .bytes)) (short : length (m .bytes) ≤ 
 
   inside-encodes : {at n u n₁ u₁ : ℕ} {vs : List ℕ} {t : List Event}
       → After (0 ∷ handleNumber m at ∷ lowWord m at ∷ []) [] (D.takeHandles m at (unknownContent 0 (handleNumber m at)) at n u) n₁ u₁ vs t
-      → flags m at ≡ inLine → at + 8 ≤ length (m .bytes) → n ≤ length (m .bytes) → (rest : List ℕ) → Encodes m writeContent at n u n₁ u₁ vs t rest
-  inside-encodes {at} {n} {u} (After.after e) f l k rest = inside-joined (took-inv m at (unknownContent 0 (handleNumber m at)) at n u e) f l k rest
+      → flags m at ≡ inLine → Fits payloadInLine (handleNumber m at) → at + 8 ≤ length (m .bytes) → n ≤ length (m .bytes) → (rest : List ℕ) → Encodes m writeContent at n u n₁ u₁ vs t rest
+  inside-encodes {at} {n} {u} (After.after e) f c l k rest = inside-joined (took-inv m at (unknownContent 0 (handleNumber m at)) at n u e) f c l k rest
 
-  outside-joined : {at n u n₁ u₁ : ℕ} {vs : List ℕ} {t : List Event} {rest : List ℕ} → 0 < lowWord m at → lowWord m at % 8 ≡ 0 → flags m at ≡ outOfLine
+  outside-joined : {at n u n₁ u₁ : ℕ} {vs : List ℕ} {t : List Event} {rest : List ℕ} → 0 < lowWord m at → lowWord m at % 8 ≡ 0 → flags m at ≡ outOfLine → Fits (lowWord m at) (handleNumber m at)
       → u + handleNumber m at ≤ m .handles → n + padded (lowWord m at) ≤ length (m .bytes) → StandsAt (m .bytes) (n + lowWord m at) (zeros (padded (lowWord m at) - lowWord m at))
       → at + 8 ≤ length (m .bytes)
       → (y : Encodes m (E.elements (λ i. encodeWord 8) 0 (lowWord m at / 8)) n (n + padded (lowWord m at)) (u + handleNumber m at) n₁ u₁ vs t rest)
       → length (y .inl) ≡ lowWord m at
       → Encodes m writeContent at n u n₁ u₁ (lowWord m at ∷ handleNumber m at ∷ vs) (claimed unknownObject row n (lowWord m at) ∷ unknownContent (lowWord m at) (handleNumber m at) ∷ t) rest
   unfolding objectList presentHandles unknownHandles unknownOutOfLine unknownLengths Tiles
-  outside-joined {at} {n} {u} {n₁} {u₁} {vs} {t} {rest} a w f g c z l y sized =
+  outside-joined {at} {n} {u} {n₁} {u₁} {vs} {t} {rest} a w f b g c z l y sized =
       let p : eqb (lowWord m at) 0 ≡ false = ne-eqb (lowWord m at) 0 (omega arith) in
       record {
         inl = envelopeBytes (lowWord m at) (handleNumber m at) outOfLine;
         ool = (y .inl ++ zeros (padded (lowWord m at) - lowWord m at)) ++ y .ool;
         writes = outside-writes (lowWord m at) (handleNumber m at) n u n₁ u₁ (vs ++ rest) rest (y .inl) (y .ool) a w (word-below (m .bytes) at 4 oct (omega arith)) (omega arith)
-            (word-below (m .bytes) (at + 4) 2 oct (omega arith)) (omega arith) (y .writes);
+            b (omega arith) (y .writes);
         inline = envelope-stands m at outOfLine oct l f;
         outOfLine = stands-object (m .bytes) (lowWord m at) n (y .inl) (y .ool) sized (y .inline) z (y .outOfLine);
         tiles = (refl, y .tiles);
@@ -291,6 +305,7 @@ module _ (m : Message) (oct : Octets (m .bytes)) (short : length (m .bytes) ≤ 
     positive : 0 < lowWord m at
     multiple : lowWord m at % 8 ≡ 0
     form : flags m at ≡ outOfLine
+    claims : Fits (lowWord m at) (handleNumber m at)
     fits : n + padded (lowWord m at) ≤ length (m .bytes)
     filled : D.isZero m (n + lowWord m at) (padded (lowWord m at) - lowWord m at) ≡ true
     inline : at + 8 ≤ length (m .bytes)
@@ -303,7 +318,7 @@ module _ (m : Message) (oct : Octets (m .bytes)) (short : length (m .bytes) ≤ 
       let tw = words-twins m oct (lowWord m at) (o .multiple) in
       let p = padded-above (lowWord m at) in
       let y = tw .encodesWhatWasDecoded e (omega (arith, o .fits)) (o .fits) rest in
-      outside-joined (o .positive) (o .multiple) (o .form) g (o .fits) (standing-zero (m .bytes) (n + lowWord m at) _ (o .filled) (omega (arith, o .fits))) (o .inline) y (tw .wellFormed (y .writes) .sized)
+      outside-joined (o .positive) (o .multiple) (o .form) (o .claims) g (o .fits) (standing-zero (m .bytes) (n + lowWord m at) _ (o .filled) (omega (arith, o .fits))) (o .inline) y (tw .wellFormed (y .writes) .sized)
 
   outside-then : {at n u n₁ u₁ : ℕ} {vs : List ℕ} {t : List Event} → Outside at n
       → Then (D.takeHandles m at (unknownContent (lowWord m at) (handleNumber m at)) n (n + padded (lowWord m at)) u) (λ n₂ u₂. D.elements 8 (λ i. decodeWord m 8) 0 (lowWord m at / 8) (n + 0) n₂ u₂) n₁ u₁ vs t
@@ -324,9 +339,9 @@ module _ (m : Message) (oct : Octets (m .bytes)) (short : length (m .bytes) ≤ 
       (D.sequence 0 (D.takeHandles m at (unknownContent (lowWord m at) (handleNumber m at))) (D.elements 8 (λ i. decodeWord m 8) 0 (lowWord m at / 8)))
 
   outside-emitted : {at n u n₁ u₁ : ℕ} {vs : List ℕ} {t : List Event} → After (lowWord m at ∷ handleNumber m at ∷ []) [] (outsideWalk at at n u) n₁ u₁ vs t
-      → eqb (flags m at) outOfLine && wholeWords m (lowWord m at) ≡ true → at + 8 ≤ length (m .bytes) → (rest : List ℕ) → Encodes m writeContent at n u n₁ u₁ vs t rest
+      → eqb (flags m at) outOfLine && wholeWords m (lowWord m at) ≡ true → Fits (lowWord m at) (handleNumber m at) → at + 8 ≤ length (m .bytes) → (rest : List ℕ) → Encodes m writeContent at n u n₁ u₁ vs t rest
   unfolding D.claim
-  outside-emitted {at} {n} {u} (After.after e) f l rest =
+  outside-emitted {at} {n} {u} (After.after e) f b l rest =
       let i = both (eqb (flags m at) outOfLine) (wholeWords m (lowWord m at)) f in
       let j = both (eqb (lowWord m at % 8) 0) (ltb 0 (lowWord m at)) (i .1) in
       let c = require-inv (leb (n + padded (lowWord m at)) (length (m .bytes))) (fault objectDoesNotFit (Byte n)) _ e in
@@ -335,21 +350,36 @@ module _ (m : Message) (oct : Octets (m .bytes)) (short : length (m .bytes) ≤ 
         positive = ltb-true 0 (lowWord m at) (j .1);
         multiple = eqb-true (lowWord m at % 8) 0 (j .0);
         form = eqb-true (flags m at) outOfLine (i .0);
+        claims = b;
         fits = leb-true (n + padded (lowWord m at)) (length (m .bytes)) (c .0);
         filled = z .0;
         inline = l;
       }) (after-inv _ _ _ (z .1)) rest
 
+  -- What passed 35.
+  abbrev requireClaims : (payload at : ℕ) → Decoded → Decoded
+  requireClaims payload at result = D.require (leb (handleNumber m at * 4) payload) (fault handlesImpossible (Byte at)) result
+
+  claims-inv : (payload at : ℕ) (r : Decoded) → at + 8 ≤ length (m .bytes) → {n u : ℕ} {vs : List ℕ} {t : List Event} → requireClaims payload at r ≡ went n u vs t
+      → Fits payload (handleNumber m at) × (r ≡ went n u vs t)
+  claims-inv payload at r l e =
+      let i = require-inv (leb (handleNumber m at * 4) payload) (fault handlesImpossible (Byte at)) r e in
+      (record { small = word-below (m .bytes) (at + 4) 2 oct (omega arith); room = leb-true _ _ (i .0) }, i .1)
+
   -- The two forms, with the test that told them apart.
   content-forms : (at n u : ℕ) {n₁ u₁ : ℕ} {vs : List ℕ} {t : List Event} (i : Bool) → eqb (flags m at) inLine ≡ i
-      → (if i then D.after (0 ∷ handleNumber m at ∷ lowWord m at ∷ []) [] (D.takeHandles m at (unknownContent 0 (handleNumber m at)) at n u)
-      else D.require (eqb (flags m at) outOfLine && wholeWords m (lowWord m at)) (fault envelopeFormWrong (Byte at)) (D.after (lowWord m at ∷ handleNumber m at ∷ []) [] (outsideWalk at at n u)))
+      → (if i then requireClaims payloadInLine at (D.after (0 ∷ handleNumber m at ∷ lowWord m at ∷ []) [] (D.takeHandles m at (unknownContent 0 (handleNumber m at)) at n u))
+      else D.require (eqb (flags m at) outOfLine && wholeWords m (lowWord m at)) (fault envelopeFormWrong (Byte at))
+      (requireClaims (lowWord m at) at (D.after (lowWord m at ∷ handleNumber m at ∷ []) [] (outsideWalk at at n u))))
       ≡ went n₁ u₁ vs t
       → at + 8 ≤ length (m .bytes) → n ≤ length (m .bytes) → (rest : List ℕ) → Encodes m writeContent at n u n₁ u₁ vs t rest
-  content-forms at n u true q e l k rest = inside-encodes (after-inv _ [] (D.takeHandles m at (unknownContent 0 (handleNumber m at)) at n u) e) (eqb-true (flags m at) inLine q) l k rest
+  content-forms at n u true q e l k rest =
+      let c = claims-inv payloadInLine at _ l e in
+      inside-encodes (after-inv _ [] (D.takeHandles m at (unknownContent 0 (handleNumber m at)) at n u) (c .1)) (eqb-true (flags m at) inLine q) (c .0) l k rest
   content-forms at n u false q e l k rest =
       let f = require-inv (eqb (flags m at) outOfLine && wholeWords m (lowWord m at)) (fault envelopeFormWrong (Byte at)) _ e in
-      outside-emitted (after-inv _ [] (outsideWalk at at n u) (f .1)) (f .0) l rest
+      let c = claims-inv (lowWord m at) at _ l (f .1) in
+      outside-emitted (after-inv _ [] (outsideWalk at at n u) (c .1)) (f .0) (c .0) l rest
 
   pub twins-content : Twins m 8 walkContent writeContent
   unfolding unknownEnvelope

@@ -2,12 +2,13 @@
 use mathlib.Core.Path.{_≡_, refl}
 use mathlib.Core.Bool.{Bool, true, false, _&&_}
 use mathlib.Core.List.{List, [], _∷_}
-use Prim.Native.Nat.{ℕ, zero, suc, _-_, _*_, _/_}
+use Prim.Native.Nat.{ℕ, zero, suc, _-_, _*_, _/_, _%_, _≤_, _<_}
 use native.Mathlib.Omega.{arith}
-use lib.Dec.{leb, eqb}
+use borrow.Author.Tests.{leb-true, ltb-true}
+use lib.Dec.{leb, ltb, eqb}
 use Rattle.rules.specs.declared.Place.the-variants.{Row, Byte}
 use Rattle.rules.specs.declared.Layout.{Layout}
-use Rattle.rules.specs.Refusals.{if_then_else_, fault, tableNotSound, tooDeep, requiredAbsent, textNotUtf8, envelopeFormWrong}
+use Rattle.rules.specs.Refusals.{if_then_else_, fault, tableNotSound, tooDeep, requiredAbsent, textNotUtf8, envelopeFormWrong, handlesImpossible}
 use Rattle.rules.specs.Bytes.{word, ones32, ones64}
 use Rattle.rules.specs.TypeTable.{Edition, eightByteEnvelopes, envelopeSize, FidlType, bool, number, handle, array, vector, string, struct, box, table, union, none, typeOf, memberRows, Content, known, unknown, contentOf, below}
 use Rattle.rules.specs.Sizes.{Field, field, fieldsOf, layoutBelow, sizeOf}
@@ -16,11 +17,12 @@ use Rattle.rules.specs.Trace.{presentHandle, unknownContent, primaryObje
 use Rattle.rules.specs.Decode as D
 use Rattle.rules.specs.Decode.{Message, traceOf, Decoder, got}
 use Rattle.rules.specs.Records.{unless, boolPattern, ordinalPattern, readNumber, Presence, absent, present, neither, presence, presenceRecord, readPresence, readCount, readTable}
-use Rattle.rules.specs.Envelope.{decodeWord, inLine, outOfLine, lowWord, handleNumber, flags, knownAs, unknownInLine, unknownOutOfLine, wholeWords, unknownEnvelope, contentOfEightBytes, decodeContent}
+use Rattle.rules.specs.Envelope.{decodeWord, inLine, outOfLine, payloadInLine, claimable, unknownPayload, requireClaimable, lowWord, handleNumber, flags, knownAs, unknownInLine, unknownOutOfLine, wholeWords, unknownEnvelope, contentOfEightBytes, decodeContent}
 use Rattle.rules.specs.Walk as W
 use Rattle.rules.specs.Answers.{walk}
+use Rattle.rules.proofs.Tests.{both}
 use Rattle.rules.proofs.Records.{readIf-inv, wrong-not-got, present-ones}
-use Rattle.rules.proofs.Events.{Met, met-handle, met-unknown, Truthful, true-require, true-if, nothing-true, refuse-true, sequence-true, elements-true, here-true, emit-true, record-true, word-true, checked-true, fill-true, claim-true, take-true, optional-true, last-true, zero-true, present-true, numbered-true, flagged-true}
+use Rattle.rules.proofs.Events.{Met, met-handle, met-unknown, True, Truthful, true-require, true-if, nothing-true, refuse-true, sequence-true, elements-true, here-true, emit-true, record-true, word-true, checked-true, fill-true, claim-true, take-true, optional-true, last-true, zero-true, present-true, numbered-true, flagged-true}
 
 module _ (m : Message) where
   -- What lies deeper.
@@ -40,23 +42,34 @@ module _ (m : Message) where
       flagged-true m outOfLine (numbered-true m (here-true m _ (λ at.
       deeper-true at (λ rows b. D.claim m payloadObject row (sizeOf (m .table) row) (rows row)) (λ rows below x b. claim-true m payloadObject row (sizeOf (m .table) row) (x row)) a)))
 
-  in-line-true : {d : D.Deeper} (at : ℕ) → AllTruthful d → Truthful m (unknownInLine m d at)
-  in-line-true at a = deeper-true at _ (λ rows below x b. emit-true m _ (take-true m at (unknownContent 0 (handleNumber m at)) (met-unknown (m .bytes) 0 (handleNumber m at)))) a
+  in-line-true : {d : D.Deeper} (at : ℕ) → claimable payloadInLine (handleNumber m at) ≡ true → AllTruthful d → Truthful m (unknownInLine m d at)
+  in-line-true at e a =
+      deeper-true at _ (λ rows below x b. emit-true m _ (take-true m at (unknownContent 0 (handleNumber m at)) (met-unknown (m .bytes) 0 (handleNumber m at) (leb-true (handleNumber m at * 4) payloadInLine e)))) a
 
-  out-of-line-true : {d : D.Deeper} (row at : ℕ) → AllTruthful d → Truthful m (unknownOutOfLine m d row at)
-  out-of-line-true row at a =
+  -- A byte number that is a positive one is the payload's.
+  number-fits : (number handles : ℕ) → ltb 0 number ≡ true → claimable number handles ≡ true → handles * 4 ≤ unknownPayload number
+  number-fits zero handles q e = let h : 0 < 0 = ltb-true 0 0 q in omega arith
+  number-fits (suc n) handles q e = leb-true (handles * 4) (suc n) e
+
+  out-of-line-true : {d : D.Deeper} (row at : ℕ) → wholeWords m (lowWord m at) ≡ true → claimable (lowWord m at) (handleNumber m at) ≡ true → AllTruthful d → Truthful m (unknownOutOfLine m d row at)
+  out-of-line-true row at w e a =
+      let fits = number-fits (lowWord m at) (handleNumber m at) (both (eqb (lowWord m at % 8) 0) (ltb 0 (lowWord m at)) w .1) e in
       deeper-true at _ (λ rows below x b.
       emit-true m _ (claim-true m unknownObject row (lowWord m at)
-      (sequence-true m 0 (take-true m at (unknownContent (lowWord m at) (handleNumber m at)) (met-unknown (m .bytes) (lowWord m at) (handleNumber m at)))
+      (sequence-true m 0 (take-true m at (unknownContent (lowWord m at) (handleNumber m at)) (met-unknown (m .bytes) (lowWord m at) (handleNumber m at) fits))
       (elements-true m 8 (λ i. decodeWord m 8) (λ i. word-true m 8) 0 (lowWord m at / 8))))) a
+
+  claimable-true : (payload at : ℕ) (r : D.Decoded) → (claimable payload (handleNumber m at) ≡ true → True m r) → True m (requireClaimable m payload at r)
+  claimable-true payload at r x = true-require m (claimable payload (handleNumber m at)) (fault handlesImpossible (Byte at)) r x
 
   unknown-true : {d : D.Deeper} (row : ℕ) → AllTruthful d → Truthful m (unknownEnvelope m d row)
   unfolding unknownEnvelope
   unknown-true {d} row a = record {
     met = λ at next used.
-        true-if m (eqb (flags m at) inLine) (unknownInLine m d at at next used) _ (in-line-true at a .met at next used)
-        (true-require m (eqb (flags m at) outOfLine && wholeWords m (lowWord m at)) (fault envelopeFormWrong (Byte at)) (unknownOutOfLine m d row at at next used)
-        (λ e. out-of-line-true row at a .met at next used));
+        true-if m (eqb (flags m at) inLine) _ _ (claimable-true payloadInLine at (unknownInLine m d at at next used) (λ e. in-line-true at e a .met at next used))
+        (true-require m (eqb (flags m at) outOfLine && wholeWords m (lowWord m at)) (fault envelopeFormWrong (Byte at)) _ (λ f.
+        claimable-true (lowWord m at) at (unknownOutOfLine m d row at at next used) (λ e.
+        out-of-line-true row at (both (eqb (flags m at) outOfLine) (wholeWords m (lowWord m at)) f .1) e a .met at next used)));
   }
 
   content-true : (edition : Edition) {d : D.Deeper} (row : ℕ) (content : Content) → AllTruthful d → Truthful m (decodeContent edition m d row content)

@@ -21,7 +21,7 @@ use Rattle.rules.specs.Decode.{Message, went, stopped, Decoder}
 use Rattle.rules.specs.Encode as E
 use Rattle.rules.specs.Encode.{Encoder}
 use Rattle.rules.specs.Records.{boolPattern, ordinalPattern}
-use Rattle.rules.specs.Envelope.{decodeWord, encodeWord, inLine, outOfLine, flags, lowWord, wholeWords, knownAs, writeKnownAs, unknownEnvelope, writeUnknown, contentOfEightBytes, writeContentOfEightBytes, decodeContent, encodeContent}
+use Rattle.rules.specs.Envelope.{decodeWord, encodeWord, inLine, outOfLine, payloadInLine, claimable, flags, handleNumber, lowWord, wholeWords, knownAs, writeKnownAs, unknownEnvelope, writeUnknown, contentOfEightBytes, writeContentOfEightBytes, decodeContent, encodeContent}
 use Rattle.rules.specs.Walk as W
 use Rattle.rules.specs.Writer as R
 use Rattle.rules.proofs.Bytes.{padded-above}
@@ -103,15 +103,14 @@ module _ (m : Message) (oct : Octets (m .bytes)) (short : length (m .bytes) ≤ 
   never-zero-known row true q g = never-zero-flag m _
   never-zero-known row false q g = never-zero-number m outOfLine _ (known-grows row (leb-false (sizeOf (m .table) row) 4 q) g)
 
-  spent-stops : (f₁ f₂ f₃ : Fault) (i c : Bool) {n u : ℕ} {vs : List ℕ} {t : List Event}
-      → (if i then stopped f₁ [] [] else D.require c f₂ (stopped f₃ [] [])) ≡ went n u vs t → ⊥
-  spent-stops f₁ f₂ f₃ true c e = stopped-not-went e
-  spent-stops f₁ f₂ f₃ false true e = stopped-not-went e
-  spent-stops f₁ f₂ f₃ false false e = stopped-not-went e
+  spent-stops : (f₁ f₂ f₃ f₄ f₅ : Fault) (i a b c : Bool) {n u : ℕ} {vs : List ℕ} {t : List Event}
+      → (if i then D.require a f₁ (stopped f₂ [] []) else D.require b f₃ (D.require c f₄ (stopped f₅ [] []))) ≡ went n u vs t → ⊥
+  spent-stops f₁ f₂ f₃ f₄ f₅ true a b c e = stopped-not-went (require-inv a f₁ (stopped f₂ [] []) e .1)
+  spent-stops f₁ f₂ f₃ f₄ f₅ false a b c e = stopped-not-went (require-inv c f₄ (stopped f₅ [] []) (require-inv b f₃ _ e .1) .1)
 
   unknown-spent : (row at n u : ℕ) {n₁ u₁ : ℕ} {vs : List ℕ} {t : List Event} → unknownEnvelope m D.spent row at n u ≡ went n₁ u₁ vs t → ⊥
   unfolding unknownEnvelope
-  unknown-spent row at n u e = spent-stops _ _ _ (eqb (flags m at) inLine) (eqb (flags m at) outOfLine && wholeWords m (lowWord m at)) e
+  unknown-spent row at n u e = spent-stops _ _ _ _ _ (eqb (flags m at) inLine) (claimable payloadInLine (handleNumber m at)) (eqb (flags m at) outOfLine && wholeWords m (lowWord m at)) (claimable (lowWord m at) (handleNumber m at)) e
 
   twins-unknown : (row : ℕ) {d : D.Deeper} {e : E.Deeper} → DeeperTwins m d e → Twins m 8 (unknownEnvelope m d row) (writeUnknown e)
   unfolding writeUnknown

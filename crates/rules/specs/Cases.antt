@@ -9,15 +9,16 @@ use Rattle.rules.specs.declared.Place.the-variants.{Byte}
 use Rattle.rules.specs.Refusals.{fault, objectDoesNotFit, fillNotZero, bytesLeft, Answer, accepted, refused, number, place}
 use Rattle.rules.specs.Bytes.{bytesOf}
 use Rattle.rules.specs.TypeTable.{TypeTable, typeTable}
-use Rattle.rules.specs.Answers.{check, readObjects, Lists, read}
+use Rattle.rules.specs.Answers.{check, readObjects, Lists, read, written}
 use Rattle.rules.specs.Header.{readHeader, epitaphBytes}
 
 -- A message under a table and root, and what the checker answers; or that it is accepted, so many objects in so many bytes;
--- or what the reader hands back.
+-- or what the reader hands back. A value list, and what the writer answers.
 pub data Case : Type 0 where
   checks : (t : TypeTable) (root : ℕ) (bytes : List ℕ) (handles : ℕ) → (number place : ℕ) → Case
   accepts : (t : TypeTable) (root : ℕ) (bytes : List ℕ) (handles : ℕ) → (objects size : ℕ) → Case
   reads : (t : TypeTable) (root : ℕ) (bytes : List ℕ) (handles : ℕ) → (values objects : List ℕ) → Case
+  writes : (t : TypeTable) (root : ℕ) (values : List ℕ) → (number place : ℕ) → Case
 
 pub data Outcome : Type 0 where
   answer : (number place : ℕ) → Outcome
@@ -28,25 +29,27 @@ abbrev pub expected : Case → Outcome
 expected (checks t root bytes handles number place) = answer number place
 expected (accepts t root bytes handles objects size) = holds objects size
 expected (reads t root bytes handles values objects) = lists values objects
+expected (writes t root values number place) = answer number place
 
-abbrev pub checkOutcome : Answer (Unit {0}) → Outcome
-checkOutcome a = answer (number a) (place a)
+abbrev pub answered : {A : Type 0} → Answer A → Outcome
+answered a = answer (number a) (place a)
 
 abbrev pub acceptOutcome : (size : ℕ) → Answer (List ℕ) → Outcome
 acceptOutcome size (accepted objects) = holds (length objects / 4) size
-acceptOutcome size (refused f) = answer (number {A = List ℕ} (refused f)) (place {A = List ℕ} (refused f))
+acceptOutcome size (refused f) = answered {A = List ℕ} (refused f)
 
 abbrev pub readOutcome : Answer Lists → Outcome
 readOutcome (accepted l) = lists (l .values) (l .objects)
-readOutcome (refused f) = answer (number {A = Lists} (refused f)) (place {A = Lists} (refused f))
+readOutcome (refused f) = answered {A = Lists} (refused f)
 
 -- What the rules answer. A reader is lent just the room that the lists take.
 abbrev pub outcome : Case → Outcome
-outcome (checks t root bytes handles n p) = checkOutcome (check (record { table = t; bytes = bytes; handles = handles }) root)
+outcome (checks t root bytes handles n p) = answered (check (record { table = t; bytes = bytes; handles = handles }) root)
 outcome (accepts t root bytes handles objects size) =
     acceptOutcome (length bytes) (readObjects (record { table = t; bytes = bytes; handles = handles }) root (objects * 4))
 outcome (reads t root bytes handles values objects) =
     readOutcome (read (record { table = t; bytes = bytes; handles = handles }) root (length values) (length objects))
+outcome (writes t root values n p) = answered (written t root values)
 
 -- "Rows: 0 `2,1,0,0`; 1 `2,2,0,0`; 2 `6,0,8,1`; 3 `7,0,2,0`; 4 `9,2,3,0`. Members: `1,1` `2,1` `1,0` `2,3` `3,2`. Root 4."
 abbrev pub padTable : TypeTable
@@ -176,6 +179,22 @@ EpitaphCasesHold =
 
 -- ---- cases of the change requests
 
+-- The envelope of unknown content in line.
+abbrev pub unknownHere : (handles : ℕ) → List ℕ
+unknownHere handles = bytesOf 4 0 ++ (bytesOf 2 handles ++ bytesOf 2 1)
+
+-- P6 with its fourth envelope in line.
+abbrev pub unknownFourth : (handles : ℕ) → List ℕ
+unknownFourth handles = set p1 0 4 ++ (eightZeros ++ unknownHere handles)
+
+-- Unions within unions: row 0 is a flexible union whose one member is that union again. The innermost one's ordinal is unknown.
+abbrev pub unionTable : TypeTable
+unionTable = typeTable (10 ∷ 0 ∷ 1 ∷ 2 ∷ []) (1 ∷ 0 ∷ [])
+
+abbrev pub unionsAround : (outer handles : ℕ) → List ℕ
+unionsAround zero handles = bytesOf 8 2 ++ unknownHere handles
+unionsAround (suc outer) handles = bytesOf 8 1 ++ (bytesOf 8 (16 + outer * 16) ++ unionsAround outer handles)
+
 abbrev pub requests : List Case
 requests =
     -- W-208: "A wrong handle number is 28," in line
@@ -183,6 +202,23 @@ requests =
     -- and out of line, "tested after 16 at the same envelope".
     ∷ checks vectorTable 3 (set (vectorMember 24) 20 1) 1 28 16
     ∷ checks vectorTable 3 (set (vectorMember 16) 20 1) 1 16 16
+    -- W-209: "An unknown in-line payload of four bytes claimed nine handles",
+    ∷ checks padTable 4 (unknownFourth 9) 9 35 40
+    -- "at most one handle in line": two, and one;
+    ∷ checks padTable 4 (unknownFourth 2) 2 35 40
+    ∷ checks padTable 4 (unknownFourth 1) 1 0 0
+    -- "at most a quarter of its byte number out of line": P6 with three, and two.
+    ∷ checks padTable 4 (set p6 44 3) 3 35 40
+    ∷ checks padTable 4 (set p6 44 2) 2 0 0
+    -- "after 15 and before 5".
+    ∷ checks padTable 4 (set (set p6 40 0x0C) 44 4) 4 15 40
+    ∷ checks unionTable 0 (unionsAround 32 2) 2 35 520
+    ∷ checks unionTable 0 (unionsAround 32 1) 1 5 520
+    -- "The writer refuses such lists with 26."
+    ∷ writes padTable 4 (4 ∷ 0 ∷ 0 ∷ 0 ∷ 1 ∷ 0 ∷ 1 ∷ 7 ∷ []) 0 0
+    ∷ writes padTable 4 (4 ∷ 0 ∷ 0 ∷ 0 ∷ 1 ∷ 0 ∷ 2 ∷ 7 ∷ []) 26 6
+    ∷ writes padTable 4 (4 ∷ 0 ∷ 0 ∷ 0 ∷ 1 ∷ 8 ∷ 2 ∷ 7 ∷ []) 0 0
+    ∷ writes padTable 4 (4 ∷ 0 ∷ 0 ∷ 0 ∷ 1 ∷ 8 ∷ 3 ∷ 7 ∷ []) 26 6
     ∷ []
 
 abbrev pub RequestsHold : Type 0

@@ -10,6 +10,7 @@ use Rattle.rules.specs.Refusals.{accepted}
 use Rattle.rules.specs.Bytes.{Octets}
 use Rattle.rules.specs.TypeTable.{TypeTable}
 use Rattle.rules.specs.Trace.{Event, objectList, presentHandles, unknownHandles, unknownOutOfLine, Tiles, FillsAreZero, unknownLengths, PresentHandlesAreOnes}
+use Rattle.rules.specs.Envelope.{UnknownClaimsFit}
 use Rattle.rules.specs.Decode.{Message, traceOf}
 use Rattle.rules.specs.Answers.{walk, check, readValues, readObjects, read, write}
 
@@ -68,6 +69,8 @@ module _ (t : TypeTable) (root : ℕ) where
     pub handlesAddUp : handles ≡ presentHandles trace + unknownHandles trace
     -- "A present handle is a handle's word of all ones met in the walk"
     pub presentHandlesAreOnes : PresentHandlesAreOnes bytes trace
+    -- W-209: "an unknown payload may claim at most one handle in line, and at most a quarter of its byte number out of line"
+    pub unknownClaimsFit : UnknownClaimsFit trace
 
   -- Demand 3: "two accepted messages hold equal values exactly when bytes and handle counts are equal", and the above.
   pub record Demand3 : Type 0 where

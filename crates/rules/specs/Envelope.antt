@@ -2,14 +2,14 @@
 -- Assumes nothing.
 use mathlib.Core.Bool.{Bool, true, false, _&&_}
 use mathlib.Core.List.{List, [], _∷_, _++_}
-use Prim.Native.Nat.{ℕ, _+_, _-_, _/_, _%_}
+use Prim.Native.Nat.{ℕ, zero, suc, _+_, _-_, _*_, _/_, _%_, _≤_}
 use lib.Dec.{leb, ltb, eqb}
 use Rattle.rules.specs.declared.Place.the-variants.{Byte}
-use Rattle.rules.specs.Refusals.{if_then_else_, fault, envelopeFormWrong, byteNumberWrong, handleNumberWrong}
+use Rattle.rules.specs.Refusals.{if_then_else_, fault, envelopeFormWrong, byteNumberWrong, handleNumberWrong, handlesImpossible}
 use Rattle.rules.specs.Bytes.{word, bytesOf, padded}
 use Rattle.rules.specs.TypeTable.{TypeTable, Edition, eightByteEnvelopes, Content, known, unknown}
 use Rattle.rules.specs.Sizes.{sizeOf}
-use Rattle.rules.specs.Trace.{unknownContent, payloadObject, unknownObject}
+use Rattle.rules.specs.Trace.{Event, claimed, presentHandle, unknownContent, payloadObject, unknownObject}
 use Rattle.rules.specs.Records.{anyPattern, readNumber, writeNumber}
 use Rattle.rules.specs.Decode as D
 use Rattle.rules.specs.Encode as E
@@ -34,6 +34,25 @@ inLine = 1
 abbrev pub outOfLine : ℕ
 outOfLine = 0
 
+-- W-209: "A handle takes four bytes, so an unknown payload may claim at most one handle in line, and at most a quarter of its
+-- byte number out of line."
+abbrev pub payloadInLine : ℕ
+payloadInLine = 4
+
+abbrev pub claimable : (payload handles : ℕ) → Bool
+claimable payload handles = leb (handles * 4) payload
+
+-- The same of all unknown content that a walk met; a byte number of 0 stands for content in line.
+abbrev pub unknownPayload : (byteNumber : ℕ) → ℕ
+unknownPayload zero = payloadInLine
+unknownPayload (suc n) = suc n
+
+unfoldable pub UnknownClaimsFit : (trace : List Event) → Type 0
+UnknownClaimsFit [] = Unit {0}
+UnknownClaimsFit (claimed kind row offset length ∷ trace) = UnknownClaimsFit trace
+UnknownClaimsFit (presentHandle at ∷ trace) = UnknownClaimsFit trace
+UnknownClaimsFit (unknownContent byteNumber handles ∷ trace) = (handles * 4 ≤ unknownPayload byteNumber) × UnknownClaimsFit trace
+
 abbrev pub envelopeBytes : (bytes handles flags : ℕ) → List ℕ
 envelopeBytes bytes handles flags = bytesOf 4 bytes ++ (bytesOf 2 handles ++ bytesOf 2 flags)
 
@@ -50,6 +69,10 @@ module _ (m : D.Message) where
   -- 15, at the envelope.
   abbrev pub requireForm : Bool → (at : ℕ) → D.Decoded → D.Decoded
   requireForm holds at result = D.require holds (fault envelopeFormWrong (Byte at)) result
+
+  -- 35, at the envelope, "after 15 and before 5".
+  abbrev pub requireClaimable : (payload at : ℕ) → D.Decoded → D.Decoded
+  requireClaimable payload at result = D.require (claimable payload (handleNumber at)) (fault handlesImpossible (Byte at)) result
 
   -- A number of the envelope, tested after its value; at the envelope. W-208: 16 "means only a wrong byte number. A wrong
   -- handle number is 28, tested after 16 at the same envelope."
@@ -74,8 +97,8 @@ module _ (m : D.Message) where
   knownAs false below row =
       flagged outOfLine (byteNumbered (D.here (λ at. D.oneDeeper below at (λ rows b. D.claim m payloadObject row (sizeOf (m .table) row) (rows row)))))
 
-  -- "Unknown ordinal, in a table or flexible union: 15, also when out of line with a byte number that isn't a positive multiple of 8;
-  -- 5; out of line 6; 14. The content is taken raw." `row` is the table's or union's.
+  -- "Unknown ordinal, in a table or flexible union: 15, also when out of line with a byte number that isn't a positive multiple of 8;"
+  -- 35; "5; out of line 6; 14. The content is taken raw." `row` is the table's or union's.
   abbrev pub unknownInLine : D.Deeper → (at : ℕ) → D.Decoder
   unknownInLine below at =
       D.oneDeeper below at (λ rows b. D.emit (0 ∷ handleNumber at ∷ lowWord at ∷ []) (D.takeHandles m at (unknownContent 0 (handleNumber at))))
@@ -93,8 +116,9 @@ module _ (m : D.Message) where
 
   unfoldable pub unknownEnvelope : D.Deeper → (row : ℕ) → D.Decoder
   unknownEnvelope below row at next used =
-      let inside = unknownInLine below at at next used in
-      let outside = requireForm (eqb (flags at) outOfLine && wholeWords (lowWord at)) at (unknownOutOfLine below row at at next used) in
+      let inside = requireClaimable payloadInLine at (unknownInLine below at at next used) in
+      let claimed = requireClaimable (lowWord at) at (unknownOutOfLine below row at at next used) in
+      let outside = requireForm (eqb (flags at) outOfLine && wholeWords (lowWord at)) at claimed in
       if eqb (flags at) inLine then inside else outside
 
   unfoldable pub contentOfEightBytes : D.Deeper → (row : ℕ) → Content → D.Decoder
@@ -123,11 +147,12 @@ writeKnownAs t false below row = writeFlags outOfLine (writeByteNumber (E.oneDee
 
 -- "Content of an unknown ordinal: byte number (0 in line, else a multiple of 8 under 2^32), handle number (at most 65,535),
 -- then the 4-byte word or all 8-byte words." Each number gives 26 first; then the byte number 3, and the handle number 4.
+-- W-209: "The writer refuses such lists with 26", at the handle number.
 abbrev pub byteNumberFits : ℕ → Bool
 byteNumberFits bytes = eqb (bytes % 8) 0 && ltb bytes 4294967296
 
-abbrev pub handleNumberFits : ℕ → Bool
-handleNumberFits handles = ltb handles 65536
+abbrev pub handleNumberFits : (payload handles : ℕ) → Bool
+handleNumberFits payload handles = ltb handles 65536 && claimable payload handles
 
 abbrev pub wordFits : ℕ → Bool
 wordFits word = ltb word 4294967296
@@ -139,12 +164,12 @@ writeWords bytes handles values next used =
 
 unfoldable pub writeUnknownInLine : E.Encoder
 writeUnknownInLine =
-    E.numberThen handleNumberFits (λ handles. E.sequence (E.takeHandles handles)
+    E.numberThen (handleNumberFits payloadInLine) (λ handles. E.sequence (E.takeHandles handles)
     (E.numberThen wordFits (λ word. E.inlineBytes (envelopeBytes word handles inLine))))
 
 unfoldable pub writeUnknownOutOfLine : (bytes : ℕ) → E.Encoder
 writeUnknownOutOfLine bytes values next used =
-    let written = E.numberThen handleNumberFits (λ handles. E.sequence (E.takeHandles handles) (writeWords bytes handles)) values next used in
+    let written = E.numberThen (handleNumberFits bytes) (λ handles. E.sequence (E.takeHandles handles) (writeWords bytes handles)) values next used in
     E.requireSpace bytes next values written
 
 unfoldable pub writeUnknown : E.Deeper → E.Encoder

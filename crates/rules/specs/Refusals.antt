@@ -123,6 +123,10 @@ notAValue = 26
 abbrev pub handleNumberWrong : ℕ
 handleNumberWrong = 28
 
+-- unknown content claims more handles than its payload has room for
+abbrev pub handlesImpossible : ℕ
+handlesImpossible = 35
+
 -- ---- answers
 
 abbrev pub fault : ℕ → Place → Fault

@@ -1,24 +1,24 @@
 -- Content of an unknown ordinal: handles that it takes, in line and out of line.
 -- Assumes nothing.
 use mathlib.Core.Path.{_≡_, refl, sym, _∙_}
-use mathlib.Core.Bool.{true, false, _&&_}
+use mathlib.Core.Bool.{Bool, true, false, not, _&&_}
 use mathlib.Core.List.{List, [], _∷_}
 use Prim.Native.Nat.{ℕ, _+_, _*_, _/_, _%_, _≤_, _<_}
 use native.Mathlib.Nat.{add-zero}
 use native.Mathlib.Omega.{arith}
-use borrow.Author.Tests.{eq-eqb, ne-eqb, le-leb, lt-leb}
+use borrow.Author.Tests.{eq-eqb, ne-eqb, le-leb, lt-leb, not-true, not-false}
 use lib.Dec.{ltb, eqb}
 use lib.ListN.{length}
 use Rattle.rules.specs.declared.Fault.{Fault}
 use Rattle.rules.specs.declared.Place.the-variants.{Byte}
-use Rattle.rules.specs.Refusals.{fault, tooFewHandles, envelopeFormWrong}
+use Rattle.rules.specs.Refusals.{fault, tooFewHandles, envelopeFormWrong, handlesImpossible}
 use Rattle.rules.specs.Trace.{unknownContent, unknownObject, objectList}
 use Rattle.rules.specs.Bytes.{word, padded}
 use Rattle.rules.specs.TypeTable.{TypeTable}
 use Rattle.rules.proofs.Bytes.{padded-above}
 use Rattle.rules.specs.Decode as D
 use Rattle.rules.specs.Decode.{Message, Decoded}
-use Rattle.rules.specs.Envelope.{inLine, outOfLine, decodeWord, unknownInLine, unknownOutOfLine, unknownEnvelope}
+use Rattle.rules.specs.Envelope.{inLine, outOfLine, payloadInLine, claimable, decodeWord, unknownInLine, unknownOutOfLine, unknownEnvelope}
 use Rattle.rules.specs.Walk as W
 use Rattle.layout.specs.Ready.{someTable}
 use Rattle.walk_leaves.specs.declared.cursor.Cursor.{Cursor}
@@ -158,30 +158,53 @@ module _ (bytes objects objects′ : List ℕ) (handles row size number at : ℕ
 
 -- ---- the envelope
 
-module _ (t : TypeTable) (bytes values values′ objects objects′ : List ℕ) (handles depth row at : ℕ) (c : Cursor) {form : ℕ} {r : Walked} (q : form ≡ word bytes (at + 6) 2) where
-  pub form-in-line : form ≡ inLine
-      → Did (length bytes) handles 7 values values′ objects objects′ c r
-      (unknownInLine (message t bytes handles) (W.levels (message t bytes handles) depth) at at (c .next) (c .handles))
-      → Did (length bytes) handles 7 values values′ objects objects′ c r
-      (unknownEnvelope (message t bytes handles) (W.levels (message t bytes handles) depth) row at (c .next) (c .handles))
-  unfolding unknownEnvelope
-  form-in-line e d = rw (← q, eq-eqb _ _ e) d
+-- What was judged of the envelope's numbers holds of the message's words.
+module _ {low word : ℕ} (l : low ≡ word) where
+  formed : (form : ℕ) {b : Bool} → (eqb form outOfLine && (eqb (low % 8) 0 && ltb 0 low)) ≡ b → (eqb form outOfLine && (eqb (word % 8) 0 && ltb 0 word)) ≡ b
+  formed form w = rw (← l) w
 
-  module _ {low : ℕ} (l : low ≡ word bytes at 4) (n : form ≡ inLine → ⊥) where
-    pub form-out-of-line : (eqb form outOfLine && (eqb (low % 8) 0 && ltb 0 low)) ≡ true
-        → Did (length bytes) handles 7 values values′ objects objects′ c r
-        (unknownOutOfLine (message t bytes handles) (W.levels (message t bytes handles) depth) row at at (c .next) (c .handles))
-        → Did (length bytes) handles 7 values values′ objects objects′ c r
-        (unknownEnvelope (message t bytes handles) (W.levels (message t bytes handles) depth) row at (c .next) (c .handles))
-    unfolding unknownEnvelope
-    form-out-of-line w d =
-        let w′ : (eqb form outOfLine && (eqb (word bytes at 4 % 8) 0 && ltb 0 (word bytes at 4))) ≡ true = rw (← l) w in
-        rw (← q, ne-eqb _ _ n, w′) d
+  module _ {number number′ : ℕ} {test : Bool} (h : number ≡ number′) (e : test ≡ claimable low number) where
+    impossible : not test ≡ true → claimable word number′ ≡ false
+    impossible z = rw (← l, ← h, ← e) (not-true test z)
 
-    pub form-neither : (eqb form outOfLine && (eqb (low % 8) 0 && ltb 0 low)) ≡ false → r ≡ Refused (fault envelopeFormWrong (Byte at))
+    possible : not test ≡ false → claimable word number′ ≡ true
+    possible z = rw (← l, ← h, ← e) (not-false test z)
+
+module _ (t : TypeTable) (bytes values values′ objects objects′ : List ℕ) (handles depth row at : ℕ) (c : Cursor) {form number : ℕ} {r : Walked}
+    (q : form ≡ word bytes (at + 6) 2) (h : number ≡ word bytes (at + 4) 2) where
+  module _ {test : Bool} (e : form ≡ inLine) (p : test ≡ claimable payloadInLine number) where
+    pub in-line-impossible : not test ≡ true → r ≡ Refused (fault handlesImpossible (Byte at))
         → Did (length bytes) handles 7 values values objects objects c r
         (unknownEnvelope (message t bytes handles) (W.levels (message t bytes handles) depth) row at (c .next) (c .handles))
     unfolding unknownEnvelope
-    form-neither w y =
-        let w′ : (eqb form outOfLine && (eqb (word bytes at 4 % 8) 0 && ltb 0 (word bytes at 4))) ≡ false = rw (← l) w in
-        rw (← q, ne-eqb _ _ n, w′, y) did-stop
+    in-line-impossible w y = rw (← q, eq-eqb _ _ e, impossible refl h p w, y) did-stop
+
+    pub form-in-line : not test ≡ false
+        → Did (length bytes) handles 7 values values′ objects objects′ c r
+        (unknownInLine (message t bytes handles) (W.levels (message t bytes handles) depth) at at (c .next) (c .handles))
+        → Did (length bytes) handles 7 values values′ objects objects′ c r
+        (unknownEnvelope (message t bytes handles) (W.levels (message t bytes handles) depth) row at (c .next) (c .handles))
+    unfolding unknownEnvelope
+    form-in-line w d = rw (← q, eq-eqb _ _ e, possible refl h p w) d
+
+  module _ {low : ℕ} (n : form ≡ inLine → ⊥) (l : low ≡ word bytes at 4) where
+    pub form-neither : not (eqb form outOfLine && (eqb (low % 8) 0 && ltb 0 low)) ≡ true → r ≡ Refused (fault envelopeFormWrong (Byte at))
+        → Did (length bytes) handles 7 values values objects objects c r
+        (unknownEnvelope (message t bytes handles) (W.levels (message t bytes handles) depth) row at (c .next) (c .handles))
+    unfolding unknownEnvelope
+    form-neither w y = rw (← q, ne-eqb _ _ n, formed l form (not-true _ w), y) did-stop
+
+    module _ {test : Bool} (w : not (eqb form outOfLine && (eqb (low % 8) 0 && ltb 0 low)) ≡ false) (p : test ≡ claimable low number) where
+      pub out-of-line-impossible : not test ≡ true → r ≡ Refused (fault handlesImpossible (Byte at))
+          → Did (length bytes) handles 7 values values objects objects c r
+          (unknownEnvelope (message t bytes handles) (W.levels (message t bytes handles) depth) row at (c .next) (c .handles))
+      unfolding unknownEnvelope
+      out-of-line-impossible z y = rw (← q, ne-eqb _ _ n, formed l form (not-false _ w), impossible l h p z, y) did-stop
+
+      pub form-out-of-line : not test ≡ false
+          → Did (length bytes) handles 7 values values′ objects objects′ c r
+          (unknownOutOfLine (message t bytes handles) (W.levels (message t bytes handles) depth) row at at (c .next) (c .handles))
+          → Did (length bytes) handles 7 values values′ objects objects′ c r
+          (unknownEnvelope (message t bytes handles) (W.levels (message t bytes handles) depth) row at (c .next) (c .handles))
+      unfolding unknownEnvelope
+      form-out-of-line z d = rw (← q, ne-eqb _ _ n, formed l form (not-false _ w), possible l h p z) d

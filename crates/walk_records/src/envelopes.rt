@@ -75,7 +75,7 @@ fn is_known(what: Ordinal) -> bool
     }
 }
 
-// An envelope with content of an unknown ordinal: 15, 5, out of line 6, 14; its content is taken raw.
+// An envelope with content of an unknown ordinal: 15, 35, 5, out of line 6, 14; its content is taken raw.
 pub fn unknown_content(
     bytes: &[u8],
     held: usize,
@@ -90,15 +90,23 @@ pub fn unknown_content(
     ensures { λ r. ⌜ UnknownDid (now (bytes .entry)) held depth (now (values .entry)) (now (values .exit)) (now (objects .entry)) (now (objects .exit)) at c row r ⌝ }
 {
     let flags = words::load16(bytes, at + 6);
+    let handles = words::load16(bytes, at + 4) as u64;
     if flags == 1 {
+        if !envelope::can_claim(4, handles) {
+            return refused(35, at);
+        }
         return unknown_in_line(bytes, held, values, depth, at, c);
     }
     let low = words::load32(bytes, at);
     let whole = (low % 8 == 0) & (0 < low);
-    if (flags == 0) & whole {
-        return unknown_out_of_line(bytes, held, values, objects, depth, row, at, c);
+    let formed = (flags == 0) & whole;
+    if !formed {
+        return refused(15, at);
     }
-    refused(15, at)
+    if !envelope::can_claim(low as u64, handles) {
+        return refused(35, at);
+    }
+    unknown_out_of_line(bytes, held, values, objects, depth, row, at, c)
 }
 
 // Its word, which stands in the envelope: 5, 14.

@@ -1,12 +1,12 @@
 -- Laws of unknown content: numbers that are judged and not stored, then the envelope; a law for each way that a function ends.
 -- Assumes nothing.
 use mathlib.Core.Path.{_≡_, refl, sym, ap, _∙_}
-use mathlib.Core.Bool.{Bool, true, false}
+use mathlib.Core.Bool.{Bool, true, false, not, _&&_}
 use mathlib.Core.List.{List, []}
 use Prim.Native.Nat.{ℕ, zero, suc, _+_, _-_, _*_, _/_, _%_, _≤_, _<_}
 use native.Mathlib.Numerals.{add-one}
 use native.Mathlib.Omega.{arith}
-use borrow.Author.Tests.{lt-ltb, le-ltb, le-leb, lt-leb, ne-eqb}
+use borrow.Author.Tests.{lt-ltb, le-ltb, le-leb, lt-leb, leb-true, ne-eqb, not-true, not-false}
 use lib.Dec.{eqb, leb, ltb}
 use lib.ListN.{length, drop, getD, length-drop, drop-of-length-le}
 use lib.Seq.{sets, drop-cons}
@@ -18,7 +18,7 @@ use Rattle.rules.specs.Writer as R
 use Rattle.rules.specs.Bytes.{bytesOf, padded}
 use Rattle.rules.specs.Encode as E
 use Rattle.rules.specs.Encode.{Encoded, wrote, cannot, Encoder}
-use Rattle.rules.specs.Envelope.{envelopeBytes, handleNumberFits, wordFits, encodeWord, writeWords, byteNumberFits, writeUnknownInLine, writeUnknownOutOfLine, writeUnknown}
+use Rattle.rules.specs.Envelope.{payloadInLine, claimable, envelopeBytes, handleNumberFits, wordFits, encodeWord, writeWords, byteNumberFits, writeUnknownInLine, writeUnknownOutOfLine, writeUnknown}
 use Rattle.write_leaves.specs.declared.cursor.Cursor.{Cursor}
 use Rattle.write_leaves.specs.declared.cursor.Wrote.{Wrote}
 use Rattle.write_leaves.specs.declared.cursor.Wrote.the-variants.{On, Refused}
@@ -102,6 +102,27 @@ handles-held {values} count c d s p = go (leb (c .handles + count) 64) refl
         let says : On d ≡ Refused (fault 4 (Index (length values - suc (length (drop (c .index) values))))) = q′ .says in
         absurd (let w : _≡_ {A = ℕ} 0 1 = cc in omega arith)
 
+-- ---- the handle number
+
+both-false : (b : Bool) → b && false ≡ false
+both-false true = refl
+both-false false = refl
+
+-- What the test against the payload says of the handle number.
+module _ (payload v : ℕ) {test : Bool} (judged : test ≡ claimable payload v) where
+  many : not test ≡ true → handleNumberFits payload v ≡ false
+  many k = let q : claimable payload v ≡ false = rw (← judged) (not-true test k) in rw q (both-false (ltb v 65536))
+
+  module _ (k : not test ≡ false) where
+    claims : claimable payload v ≡ true
+    claims = rw (← judged) (not-false test k)
+
+    pub room : v * 4 ≤ payload
+    room = leb-true (v * 4) payload claims
+
+    few : payload ≤ 65536 → handleNumberFits payload v ≡ true
+    few h = let t : ltb v 65536 ≡ true = lt-ltb v 65536 (omega (arith, room)) in rw t claims
+
 -- ---- unknown content in line
 
 abbrev wordNext : (handles : ℕ) → Encoder
@@ -118,22 +139,22 @@ module _ (values out : List ℕ) (at : ℕ) (c : Cursor) (s : Stands values c) w
   pub in-line-ended : {r : Wrote} → length values ≤ c .index → r ≡ Refused (fault notAValue (Index (c .index))) → PutsInLine values out out 8 at c r writeUnknownInLine
   unfolding writeUnknownInLine
   in-line-ended h e base =
-      rw (e, number-short handleNumberFits handlesNext values (c .index) (c .next) (c .handles) h) (put-cannot notAValue 0 (c .index) (omega (arith, s .left)))
+      rw (e, number-short (handleNumberFits payloadInLine) handlesNext values (c .index) (c .next) (c .handles) h) (put-cannot notAValue 0 (c .index) (omega (arith, s .left)))
 
-  module _ {v : ℕ} (h : c .index < length values) (read : v ≡ getD values (c .index) 0) where
-    pub in-line-many : {r : Wrote} → 65535 < v → r ≡ Refused (fault notAValue (Index (c .index))) → PutsInLine values out out 8 at c r writeUnknownInLine
+  module _ {v : ℕ} {test : Bool} (h : c .index < length values) (read : v ≡ getD values (c .index) 0) (judged : test ≡ claimable payloadInLine v) where
+    pub in-line-many : {r : Wrote} → not test ≡ true → r ≡ Refused (fault notAValue (Index (c .index))) → PutsInLine values out out 8 at c r writeUnknownInLine
     unfolding writeUnknownInLine
     in-line-many k e base =
-        let t : ltb v 65536 ≡ false = le-ltb v 65536 (omega arith) in
-        rw (e, number-at handleNumberFits handlesNext values (c .index) (c .next) (c .handles) h, ← read, t)
+        let t : handleNumberFits payloadInLine v ≡ false = many payloadInLine v judged k in
+        rw (e, number-at (handleNumberFits payloadInLine) handlesNext values (c .index) (c .next) (c .handles) h, ← read, t)
         (put-cannot notAValue (suc (length (drop (c .index + 1) values))) (c .index) (omega (arith, length-drop (c .index + 1) values)))
 
-    module _ {d : Cursor} (k : v ≤ 65535) (e : d ≡ tookOne c) where
+    module _ {d : Cursor} (k : not test ≡ false) (e : d ≡ tookOne c) where
       goes : writeUnknownInLine (drop (c .index) values) (c .next) (c .handles) ≡ E.andThen (E.takeHandles v (drop (c .index + 1) values) (c .next) (c .handles)) (wordNext v)
       unfolding writeUnknownInLine E.sequence
       goes =
-          let t : ltb v 65536 ≡ true = lt-ltb v 65536 (omega arith) in
-          rw (number-at handleNumberFits handlesNext values (c .index) (c .next) (c .handles) h, ← read, t)
+          let t : handleNumberFits payloadInLine v ≡ true = few payloadInLine v judged k (omega arith) in
+          rw (number-at (handleNumberFits payloadInLine) handlesNext values (c .index) (c .next) (c .handles) h, ← read, t)
 
       pub in-line-handles-over : {f : Fault} {y : Wrote} → HandlesTaken v d y → y ≡ Refused f → PutsInLine values out out 8 at c (Refused f) writeUnknownInLine
       in-line-handles-over {f} p x base =
@@ -209,28 +230,28 @@ module _ (values out : List ℕ) (base bytes at : ℕ) (c : Cursor) (ask : Ask v
         rw (e, t) (put-cannot messageTooLong (suc (length (drop (c .index) values))) (c .index - 1) (omega (arith, ask .left, some, length-drop (c .index) values)))
 
     module _ (m : bytes ≤ 65536 - c .next) where
-      space : writeUnknownOutOfLine bytes (drop (c .index) values) (c .next) (c .handles) ≡ E.numberThen handleNumberFits wordsNext (drop (c .index) values) (c .next) (c .handles)
+      space : writeUnknownOutOfLine bytes (drop (c .index) values) (c .next) (c .handles) ≡ E.numberThen (handleNumberFits bytes) wordsNext (drop (c .index) values) (c .next) (c .handles)
       unfolding writeUnknownOutOfLine
       space = let t : leb (c .next + padded bytes) 65536 ≡ true = le-leb (c .next + padded bytes) 65536 (omega (arith, full, ask .free)) in rw t
 
       pub out-ended : {r : Wrote} → length values ≤ c .index → r ≡ Refused (fault notAValue (Index (c .index))) → Puts values out out 8 at base c r (writeUnknownOutOfLine bytes)
       out-ended h e =
-          rw (e, space, number-short handleNumberFits wordsNext values (c .index) (c .next) (c .handles) h) (put-cannot notAValue 0 (c .index) (omega (arith, ask .left)))
+          rw (e, space, number-short (handleNumberFits bytes) wordsNext values (c .index) (c .next) (c .handles) h) (put-cannot notAValue 0 (c .index) (omega (arith, ask .left)))
 
-      module _ {v : ℕ} (h : c .index < length values) (read : v ≡ getD values (c .index) 0) where
-        pub out-many : {r : Wrote} → 65535 < v → r ≡ Refused (fault notAValue (Index (c .index))) → Puts values out out 8 at base c r (writeUnknownOutOfLine bytes)
+      module _ {v : ℕ} {test : Bool} (h : c .index < length values) (read : v ≡ getD values (c .index) 0) (judged : test ≡ claimable bytes v) where
+        pub out-many : {r : Wrote} → not test ≡ true → r ≡ Refused (fault notAValue (Index (c .index))) → Puts values out out 8 at base c r (writeUnknownOutOfLine bytes)
         out-many k e =
-            let t : ltb v 65536 ≡ false = le-ltb v 65536 (omega arith) in
-            rw (e, space, number-at handleNumberFits wordsNext values (c .index) (c .next) (c .handles) h, ← read, t)
+            let t : handleNumberFits bytes v ≡ false = many bytes v judged k in
+            rw (e, space, number-at (handleNumberFits bytes) wordsNext values (c .index) (c .next) (c .handles) h, ← read, t)
             (put-cannot notAValue (suc (length (drop (c .index + 1) values))) (c .index) (omega (arith, length-drop (c .index + 1) values)))
 
-        module _ {d : Cursor} (k : v ≤ 65535) (e : d ≡ tookOne c) where
+        module _ {d : Cursor} (k : not test ≡ false) (e : d ≡ tookOne c) where
           out-goes : writeUnknownOutOfLine bytes (drop (c .index) values) (c .next) (c .handles)
               ≡ E.andThen (E.takeHandles v (drop (c .index + 1) values) (c .next) (c .handles)) (writeWords bytes v)
           unfolding E.sequence
           out-goes =
-              let t : ltb v 65536 ≡ true = lt-ltb v 65536 (omega arith) in
-              space ∙ rw (number-at handleNumberFits wordsNext values (c .index) (c .next) (c .handles) h, ← read, t)
+              let t : handleNumberFits bytes v ≡ true = few bytes v judged k (omega arith) in
+              space ∙ rw (number-at (handleNumberFits bytes) wordsNext values (c .index) (c .next) (c .handles) h, ← read, t)
 
           pub out-handles-over : {f : Fault} {y : Wrote} → HandlesTaken v d y → y ≡ Refused f → Puts values out out 8 at base c (Refused f) (writeUnknownOutOfLine bytes)
           out-handles-over {f} p x =
@@ -257,7 +278,7 @@ module _ (values out : List ℕ) (base bytes at : ℕ) (c : Cursor) (ask : Ask v
                 (after-put (envelopeBytes bytes v 0) (envelope-whole bytes v 0) stored
                 (put-from (claimedFrom (words-from c bytes (f .handles) (f .index))) refl (omega arith) (omega arith) (rw eight at q)) before)
 
-        module _ (k : v ≤ 65535) where
+        module _ (k : not test ≡ false) where
           pub plain-over : {r : Wrote} → 64 < c .handles + v → r ≡ Refused (fault 4 (Index (c .index))) → Puts values out out 8 at base c r (writeUnknownOutOfLine bytes)
           plain-over l e =
               let i : c .index ≡ c .index + 1 - 1 = omega arith in

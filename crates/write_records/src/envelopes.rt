@@ -80,7 +80,8 @@ pub(crate) fn put_envelope(out: &mut [u8], at: usize, low: u32, handles: u16, fl
     words::store16(out, at + 6, flags);
 }
 
-// Unknown content: its byte number, its handle number, then its word or its words.
+// Unknown content: its byte number, its handle number, then its word or its words. No more than 65,536 bytes are claimed, so a
+// handle number that the payload has room for is under 65,536 (26).
 pub fn unknown_content(
     values: &[u64],
     out: &mut [u8],
@@ -119,7 +120,7 @@ fn unknown_in_line(values: &[u64], out: &mut [u8], at: usize, c: Cursor) -> Wrot
         return refused(26, c.index);
     }
     let handles = words::value_at(values, c.index);
-    if 65535 < handles {
+    if !envelope::can_claim(4, handles) {
         return refused(26, c.index);
     }
     match with_handles(handles as usize, took(c)) {
@@ -158,7 +159,7 @@ fn unknown_out_of_line(
         return refused(26, c.index);
     }
     let handles = words::value_at(values, c.index);
-    if 65535 < handles {
+    if !envelope::can_claim(bytes as u64, handles) {
         return refused(26, c.index);
     }
     let used = c.handles + handles as usize;

@@ -33,12 +33,13 @@ pub enum Reason {
     EpitaphTransaction = 25,
     NotAValue = 26,
     BadHandleNumber = 28,
+    ImpossibleHandles = 35,
 }
 
 use Reason::*;
 
 /// Each reason, in the order of the numbers, with a sentence for a person.
-const SENTENCES: [(Reason, &str); 27] = [
+const SENTENCES: [(Reason, &str); 28] = [
     (TableNotSound, "the type table is not sound"),
     (RootNotAllowed, "there is no such row, or it may not be a root"),
     (TooManyBytes, "the message has more than 65,536 bytes"),
@@ -69,10 +70,11 @@ const SENTENCES: [(Reason, &str); 27] = [
     (EpitaphTransaction, "an epitaph has a transaction number"),
     (NotAValue, "the list is not a value of the root's type"),
     (BadHandleNumber, "an envelope's handle number is wrong"),
+    (ImpossibleHandles, "unknown content claims more handles than its bytes have room for"),
 ];
 
 impl Reason {
-    /// The number: 1 to 26, or 28.
+    /// The number: 1 to 26, 28 or 35.
     pub fn number(self) -> u32 {
         self as u32
     }
@@ -130,7 +132,7 @@ pub struct Refusal {
 }
 
 impl Refusal {
-    /// The number: 1 to 26, or 28.
+    /// The number: 1 to 26, 28 or 35.
     pub fn number(&self) -> u32 {
         self.reason.number()
     }
@@ -192,7 +194,7 @@ mod tests {
     #[test]
     fn reasons_and_numbers_go_together() {
         let numbers: Vec<u32> = (0..100).filter(|&number| Reason::from_number(number).is_some()).collect();
-        assert_eq!(numbers, (1..=26).chain([28]).collect::<Vec<_>>());
+        assert_eq!(numbers, (1..=26).chain([28, 35]).collect::<Vec<_>>());
         for number in numbers {
             let reason = Reason::from_number(number).unwrap();
             assert_eq!(reason.number(), number);

@@ -383,6 +383,8 @@ impl<'m> Decoder<'_, 'm> {
         let in_line = envelope.in_line()?;
         let length = envelope.low();
         require(in_line || length > 0 && length.is_multiple_of(8), 15, envelope.at)?;
+        let payload = if in_line { 4 } else { length };
+        require(envelope.handles() * 4 <= payload, 35, envelope.at)?;
         self.deeper(depth, envelope.at)?;
         let (at, bytes) = if in_line {
             self.values += 3;

@@ -256,6 +256,8 @@ impl Encoder<'_, '_> {
         require(length.is_multiple_of(8), 26, index)?;
         let start = self.claim(length, index)?;
         let (handles, index) = self.take_up_to(u64::from(u16::MAX))?;
+        let payload = if length == 0 { 4 } else { length };
+        require(handles * 4 <= payload, 26, index)?;
         self.take_handles(handles, index)?;
         if length == 0 {
             self.number(4, u64::from(u32::MAX), at)?;

@@ -9,8 +9,16 @@ use std::collections::BTreeMap;
 use std::path::Path;
 
 /// The files that are run.
-pub const FILES: [&str; 7] =
-    ["text.txt", "base.txt", "conformance.txt", "document.txt", "circle.txt", "W-203.txt", "W-208.txt"];
+pub const FILES: [&str; 8] = [
+    "text.txt",
+    "base.txt",
+    "conformance.txt",
+    "document.txt",
+    "circle.txt",
+    "W-203.txt",
+    "W-208.txt",
+    "W-209.txt",
+];
 
 /// What stands in a buffer before a call.
 const UNTOUCHED: u8 = 0xa5;

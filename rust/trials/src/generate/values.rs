@@ -149,8 +149,14 @@ impl Maker<'_> {
     }
 
     fn unknown(&mut self) {
-        let words = if self.random.one_in(2) { 0 } else { self.random.between(1, 4) as u64 };
-        let handles = if self.random.one_in(4) { self.random.pick(&[1, 1, 2, 3, 30, 65]) } else { 0 };
+        let words = match self.random.below(60) {
+            0..30 => 0,
+            30 => self.random.between(8, 40) as u64,
+            _ => self.random.between(1, 4) as u64,
+        };
+        // a handle takes four bytes, so one more than the most is no value
+        let most = (2 * words).max(1);
+        let handles = if self.random.one_in(4) { self.random.pick(&[1, 1, most, most, most + 1]) } else { 0 };
         self.values.extend([8 * words, handles]);
         if words == 0 {
             self.number(4);
