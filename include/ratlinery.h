@@ -78,7 +78,7 @@ enum {
     RATLINERY_REQUIRED_ABSENT = 10,       /* something required is absent | record or word */
     RATLINERY_ABSENT_NOT_ZERO = 11,       /* absent, but its count or envelope is not zero | record */
     RATLINERY_COUNT_TOO_LARGE = 12,       /* a count is over the largest | record */
-    RATLINERY_NOT_UTF8 = 13,              /* a string is not UTF-8 | record */
+    RATLINERY_NOT_UTF8 = 13,              /* text is not UTF-8 | first byte of the first sequence that is not allowed */
     RATLINERY_TOO_FEW_HANDLES = 14,       /* too few handles are left | word or envelope */
     RATLINERY_BAD_ENVELOPE = 15,          /* an envelope's flags or form of size are wrong | envelope */
     RATLINERY_BAD_BYTE_NUMBER = 16,       /* an envelope's byte number is wrong | envelope */
@@ -162,6 +162,11 @@ uint32_t ratlinery_header_write(uint32_t transaction, uint8_t flag0, uint8_t fla
  * Refusals: 22 with 24. */
 uint32_t ratlinery_epitaph_write(uint8_t flag0, uint8_t flag1, uint8_t flag2, int32_t status, uint8_t *out,
                                  size_t out_len, uint64_t *answer, size_t answer_len);
+
+/* Is a text UTF-8 by RFC 3629, as a message's strings must be? It may have any number of bytes.
+ * answer: place.
+ * Refusals: 13, whose place counts from the text's start. */
+uint32_t ratlinery_utf8(const uint8_t *text, size_t text_len, uint64_t *answer, size_t answer_len);
 
 #ifdef __cplusplus
 }

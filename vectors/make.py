@@ -15,14 +15,15 @@ import sys
 
 HERE = pathlib.Path(__file__).resolve().parent
 CRATES = HERE.parent / "crates"
-FILES = ("text.txt", "base.txt", "conformance.txt", "document.txt", "circle.txt", "W-203.txt", "W-208.txt", "W-209.txt")
+REQUESTS = ("W-203", "W-208", "W-209", "W-201")
+FILES = ("text.txt", "base.txt", "conformance.txt", "document.txt", "circle.txt", *(f"{request}.txt" for request in REQUESTS))
 
 # The operations that `cases` runs, in the order of their numbers, from 1 on.
-RUN = ("is_utf8", "sound", "layout", "header_read", "header_write", "check", "read", "write", "epitaph_write")
+RUN = ("utf8", "sound", "layout", "header_read", "header_write", "check", "read", "write", "epitaph_write")
 
 # The fields of each operation in the vector files: its inputs, and its answer.
 FIELDS = {
-    "is_utf8": ("bytes number number", "number"),
+    "utf8": ("bytes number number", "number number"),
     "sound": ("list list", "number number"),
     "layout": ("list list number", "number number number number"),
     "check": ("list list number bytes number", "number number"),

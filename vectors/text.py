@@ -11,7 +11,8 @@ import sys
 
 HEADER = """\
 # Cases of text, one a line: case, TAB, answer. Bytes are hex, '-' is no bytes. Made by text.py.
-#   is_utf8 MESSAGE PLACE COUNT   -> 1 if the COUNT bytes from PLACE on, as far as they lie in the message, are UTF-8, else 0
+#   utf8 MESSAGE PLACE COUNT   -> number place: 0 0 if the COUNT bytes from PLACE on, as far as they lie in the message, are UTF-8,
+#                                 else 13 and the offset among them of the first sequence that is not allowed
 """
 LAST = 2**64 - 1
 
@@ -45,6 +46,9 @@ def runs():
     pieces = ("é".encode(), "語".encode(), "😀".encode(), b"\x80", b"\xc3", b"\xe8\xaa", b"\xf0\x9f\x98", b"\xed\xa0\x80")
     for before, piece, behind in itertools.product((0, 1, 7, 8, 9, 15, 16, 17), pieces, (0, 1, 8)):
         yield b"a" * before + piece + b"z" * behind
+    # Of two bad ones the first counts.
+    for first, second in itertools.product(pieces[3:], repeat=2):
+        yield "aé語😀".encode() + first + b"z" + second
     for count in (2, 3, 4, 100):
         yield "".join("aé語😀"[i % 4] for i in range(count)).encode()
     yield b"a" * 2000 + b"\xff"
@@ -68,18 +72,19 @@ def cases():
     yield from parts()
 
 
-def is_utf8(text):
+def judge(text):
+    """Number and place."""
     try:
         text.decode("utf-8", "strict")
-    except UnicodeDecodeError:
-        return False
-    return True
+    except UnicodeDecodeError as broken:
+        return 13, broken.start
+    return 0, 0
 
 
 def lines():
     for message, at, count in cases():
-        answer = is_utf8(message[at:][:count])
-        yield f"is_utf8 {message.hex() or '-'} {at} {count}\t{int(answer)}\n"
+        number, place = judge(message[at:][:count])
+        yield f"utf8 {message.hex() or '-'} {at} {count}\t{number} {place}\n"
 
 
 def main(words):

@@ -1,5 +1,5 @@
-// Receives a message with its header: reads the header, checks the body and reads its values into a vector. Then receives an
-// epitaph, whose header is read with its status.
+// Receives a message with its header: reads the header, checks the body and reads its values into a vector. Then judges a
+// name by itself, and receives an epitaph, whose header is read with its status.
 //
 //   rt staticlib ratlinery
 //   c++ -Iinclude examples/cpp/receive.cpp target/staticlib/libratlinery.a -o target/receive && target/receive
@@ -70,6 +70,12 @@ int main() {
     } catch (const Refused &refused) {
         std::cout << "without its handle: " << refused.what() << "\n";
     }
+
+    // A name that is cut off in a character is refused: 13, at that character's first byte, here of the name by itself.
+    const std::array<std::uint8_t, 6> name = {{'p', 'a', 'd', ' ', 0xe2, 0x82}};
+    if (ratlinery_utf8(name.data(), name.size(), answer.data(), answer.size()) != RATLINERY_NOT_UTF8)
+        return 1;
+    std::cout << "a name that breaks at byte " << answer[0] << "\n";
 
     // An epitaph needs no type table: its status is the last result of the header reader.
     std::array<std::uint8_t, 24> epitaph;

@@ -108,7 +108,7 @@ fn message_room() -> [u8; MESSAGE_ROOM]
 
 fn write_name(operation: usize) -> bool {
     match operation {
-        1 => io::write_all(1, b"is_utf8"),
+        1 => io::write_all(1, b"utf8"),
         2 => io::write_all(1, b"sound"),
         3 => io::write_all(1, b"layout"),
         4 => io::write_all(1, b"header_read"),
@@ -124,7 +124,7 @@ fn write_name(operation: usize) -> bool {
 fn passes(operation: usize, case: &[u64]) -> bool {
     let numbers = stream::rest(case, 1);
     match operation {
-        1 => is_utf8(numbers),
+        1 => utf8(numbers),
         2 => sound(numbers),
         3 => layout_of(numbers),
         4 => header_read(numbers),
@@ -137,16 +137,21 @@ fn passes(operation: usize, case: &[u64]) -> bool {
     }
 }
 
-// The message, the place and the count; 1 for text that is UTF-8, else 0.
-fn is_utf8(case: &[u64]) -> bool {
+// The message, the place and the count; number and place.
+fn utf8(case: &[u64]) -> bool {
     let numbers = stream::list(case, 0);
     let mut message = message_room();
     let count = stream::to_bytes(numbers, &mut message);
     let next = 1 + numbers.len();
     let at = words::value_at(case, next) as usize;
     let length = words::value_at(case, next + 1) as usize;
-    let answer = [text::is_utf8(&message[..count], at, length) as u64];
-    stream::same(stream::rest(case, next + 2), &answer)
+    let bytes = &message[..count];
+    let answer = stream::rest(case, next + 2);
+    match text::judge_part(bytes, at, length) {
+        text::Text::Valid => stream::same(answer, &[0, 0]) & text::is_utf8(bytes, at, length),
+        text::Text::Broken(start) => stream::same(answer, &[13, start as u64])
+            & !text::is_utf8(bytes, at, length),
+    }
 }
 
 // The row list and the member list; number and place.

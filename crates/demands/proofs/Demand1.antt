@@ -10,11 +10,13 @@ use lib.ListN.{length, drop, set}
 use lib.Seq.{drop-at, drop-set-lt, sets}
 use Rattle.rules.specs.declared.Fault.{Fault}
 use Rattle.rules.specs.Refusals.{placeNumber, Answer, accepted, refused, andThen, lentAfter}
+use Rattle.rules.specs.Bytes.{part}
 use Rattle.rules.specs.TypeTable.{typeTable}
 use Rattle.rules.specs.Answers as Rules
 use Rattle.rules.specs.Answers.{Lists}
 use Rattle.rules.specs.Header as HeaderRules
 use Rattle.header.specs.Meaning as Meaning
+use Rattle.text.proofs.Numbers.{text-answer}
 use Rattle.walk_leaves.specs.Doing as Doing
 use Rattle.reader.specs.Answers.{givenOf, readingOf, lengthOf, lengthsOf, valuesIn, objectsIn}
 use Rattle.writer.specs.Answers.{writtenOf, sizesOf}
@@ -107,6 +109,8 @@ demand1 = record {
   writeEpitaph = λ {out} {out′} flag0 flag1 flag2 status r p.
       let write = HeaderRules.writeEpitaph flag0 flag1 flag2 status (length out) in
       (refuses-told (Meaning.writtenOf r) write length (p .answer), keeps (Meaning.writtenOf r) write out out′ (p .answer) (p .output));
+  judgeText = λ {text} r p. refuses-same _ _ (text-answer text r (p .answer));
+  judgePart = λ {bytes} {at} {count} r p. refuses-same _ _ (text-answer (part bytes at count) r (p .answer));
   listed = λ {message} {out} {out′} {count} p.
       (λ f e. listing-refused (length message) e, rw (p .output) (past-stored (listing message) out 0 count (omega (arith, p .answer))));
   roundTrip = λ {rows} {members} {message} {values} {values′} {out} {out′} {root} {handles} r p.

@@ -19,6 +19,10 @@ use Rattle.header.proofs.write_header.Kinds as write-kinds
 use Rattle.header.proofs.write_header.Reads as write
 use Rattle.header.proofs.write_epitaph.Kinds as epitaph-kinds
 use Rattle.header.proofs.write_epitaph.Reads as epitaph
+use Rattle.text.proofs.judge.Kinds as text-kinds
+use Rattle.text.proofs.judge.Reads as text
+use Rattle.text.proofs.judge_part.Kinds as part-kinds
+use Rattle.text.proofs.judge_part.Reads as part
 use Rattle.text.proofs.is_utf8.Kinds as bytes-kinds
 use Rattle.text.proofs.is_utf8.Reads as bytes
 use Rattle.text.proofs.are_utf8.Kinds as numbers-kinds
@@ -27,7 +31,7 @@ use Rattle.listing.proofs.listing.Kinds as listing-kinds
 use Rattle.listing.proofs.listing.Reads as listing
 use Rattle.demands.proofs.round_trip.Kinds as trip-kinds
 use Rattle.demands.proofs.round_trip.Reads as trip
-use Rattle.demands.specs.OtherPromises.{Prepares, LaysOut, AllowsRoot, ReadsHeader, HandsBody, WritesHeader, WritesEpitaph, IsText, AreText, Lists, RoundTrips}
+use Rattle.demands.specs.OtherPromises.{Prepares, LaysOut, AllowsRoot, ReadsHeader, HandsBody, WritesHeader, WritesEpitaph, JudgesText, JudgesPart, IsText, AreText, Lists, RoundTrips}
 
 module _ (κs : Lfts 4) (a : Dens κs prepare-kinds.ps) where
   pub prepare-asks-nothing : prepare.Asked κs a
@@ -84,6 +88,22 @@ module _ (κs : Lfts 1) (a : Dens κs epitaph-kinds.ps) where
   pub write-epitaph-promises : (r : resT epitaph-kinds.r κs .Denot) (s : AtExit (endedOf 1 epitaph-kinds.ps epitaph-kinds.r) κs) → epitaph.Learnt κs a r s
       → WritesEpitaph (a .0) (a .1 .0) (a .1 .1 .0) (a .1 .1 .1 .0) (now (a .1 .1 .1 .1 .0)) (now (s .1 .1 .1 .1 .0)) r
   write-epitaph-promises r s l = record { answer = l .0; output = l .1 .0; numbers = l .1 .1 }
+
+module _ (κs : Lfts 1) (a : Dens κs text-kinds.ps) where
+  pub judge-asks-nothing : text.Asked κs a
+  judge-asks-nothing = tt
+
+  pub judge-promises : (r : resT text-kinds.r κs .Denot) (s : AtExit (endedOf 1 text-kinds.ps text-kinds.r) κs) → text.Learnt κs a r s
+      → JudgesText (now (a .0)) r
+  judge-promises r s l = record { answer = l .0; numbers = l .1 }
+
+module _ (κs : Lfts 1) (a : Dens κs part-kinds.ps) where
+  pub judge-part-asks-nothing : part.Asked κs a
+  judge-part-asks-nothing = tt
+
+  pub judge-part-promises : (r : resT part-kinds.r κs .Denot) (s : AtExit (endedOf 1 part-kinds.ps part-kinds.r) κs) → part.Learnt κs a r s
+      → JudgesPart (now (a .0)) (a .1 .0) (a .1 .1 .0) r
+  judge-part-promises r s l = record { answer = l .0; numbers = l .1 }
 
 module _ (κs : Lfts 1) (a : Dens κs bytes-kinds.ps) where
   pub is-utf8-asks-nothing : bytes.Asked κs a

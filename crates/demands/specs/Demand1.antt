@@ -10,6 +10,7 @@ use lib.IntN.{ℤ, pos}
 use lib.ListN.{length, drop}
 use Rattle.rules.specs.declared.Fault.{Fault}
 use Rattle.rules.specs.Refusals.{placeNumber, Answer, accepted, refused, andThen}
+use Rattle.rules.specs.Bytes.{part}
 use Rattle.rules.specs.TypeTable.{typeTable}
 use Rattle.rules.specs.Sound.{soundness}
 use Rattle.rules.specs.Answers as Rules
@@ -21,6 +22,8 @@ use Rattle.header.specs.declared.Header.{Header}
 use Rattle.header.specs.declared.HeaderAnswer.{HeaderAnswer}
 use Rattle.header.specs.declared.HeaderWritten.{HeaderWritten}
 use Rattle.header.specs.Meaning as Meaning
+use Rattle.text.specs.declared.Text.{Text}
+use Rattle.text.specs.Answers as Texts
 use Rattle.reader.specs.declared.Verdict.{Verdict}
 use Rattle.reader.specs.declared.Given.{Given}
 use Rattle.reader.specs.declared.Reading.{Reading}
@@ -33,7 +36,7 @@ use Rattle.demands.specs.declared.Trip.{Trip}
 use Rattle.demands.specs.declared.Trip.the-variants.{Refused}
 use Rattle.demands.specs.Promises.{Checks, ReadsValues, ReadsObjects, Reads, Writes}
 use Rattle.demands.specs.Trips.{trip, tripValues}
-use Rattle.demands.specs.OtherPromises.{Prepares, LaysOut, ReadsHeader, HandsBody, WritesHeader, WritesEpitaph, Lists, RoundTrips}
+use Rattle.demands.specs.OtherPromises.{Prepares, LaysOut, ReadsHeader, HandsBody, WritesHeader, WritesEpitaph, JudgesText, JudgesPart, Lists, RoundTrips}
 
 -- A refusal that is answered is the one that the rules give, number and place, and theirs is answered.
 abbrev pub Refuses : {A B : Type 0} → (answered : Answer A) (ruled : Answer B) → Type 0
@@ -70,6 +73,8 @@ pub record Demand1 : Type 0 where
       → Refuses (Meaning.writtenOf r) (HeaderRules.writeHeader (Meaning.headerOf header) (length out)) × Keeps (Meaning.writtenOf r) out out′
   pub writeEpitaph : {out out′ : List ℕ} (flag0 flag1 flag2 : ℕ) (status : ℤ) (r : HeaderWritten) → WritesEpitaph flag0 flag1 flag2 status out out′ r
       → Refuses (Meaning.writtenOf r) (HeaderRules.writeEpitaph flag0 flag1 flag2 status (length out)) × Keeps (Meaning.writtenOf r) out out′
+  pub judgeText : {text : List ℕ} (r : Text) → JudgesText text r → Refuses (Texts.answerOf r) (Rules.textAnswer text)
+  pub judgePart : {bytes : List ℕ} {at count : ℕ} (r : Text) → JudgesPart bytes at count r → Refuses (Texts.answerOf r) (Rules.textAnswer (part bytes at count))
   -- A listing tells a refusal, in its two lines, and nothing past it changes.
   pub listed : {message out out′ : List ℕ} {count : ℕ} → Lists message out out′ count
       → ((f : Fault) → answered message ≡ refused f → listing message ≡ head (f .number) (placeNumber (f .place))) × (drop count out′ ≡ drop count out)

@@ -11,8 +11,8 @@ use Rattle.rules.specs.Refusals.{lentAfter}
 use Rattle.rules.specs.Bytes.{part}
 use Rattle.rules.specs.TypeTable.{typeTable}
 use Rattle.rules.specs.Sound.{soundness}
-use Rattle.rules.specs.Text.{isUtf8}
-use Rattle.rules.specs.Answers.{layoutAnswer, outputAfter, numbersOf, nothing, laid, counted}
+use Rattle.rules.specs.Text.{utf8, isUtf8}
+use Rattle.rules.specs.Answers.{layoutAnswer, textAnswer, outputAfter, numbersOf, nothing, laid, counted}
 use Rattle.rules.specs.Header as Rules
 use Rattle.layout.specs.declared.Soundness.{Soundness}
 use Rattle.layout.specs.declared.LayoutAnswer.{LayoutAnswer}
@@ -21,6 +21,8 @@ use Rattle.header.specs.declared.Header.{Header}
 use Rattle.header.specs.declared.HeaderAnswer.{HeaderAnswer}
 use Rattle.header.specs.declared.HeaderWritten.{HeaderWritten}
 use Rattle.header.specs.Meaning as Meaning
+use Rattle.text.specs.declared.Text.{Text}
+use Rattle.text.specs.Answers.{textOf, textNumbers}
 use Rattle.walk_leaves.specs.Doing as Doing
 use Rattle.listing.specs.Listing.{listing}
 use Rattle.demands.specs.declared.Trip.{Trip}
@@ -64,6 +66,16 @@ pub record WritesEpitaph (flag0 flag1 flag2 : ℕ) (status : ℤ) (out out′ : 
   pub answer : Meaning.writtenOf r ≡ Meaning.byteCount (Rules.writeEpitaph flag0 flag1 flag2 status (length out))
   pub output : out′ ≡ lentAfter (Rules.writeEpitaph flag0 flag1 flag2 status (length out)) out
   pub numbers : Meaning.writtenNumbers r ≡ numbersOf 1 counted (Rules.writeEpitaph flag0 flag1 flag2 status (length out))
+
+-- text::judge
+pub record JudgesText (text : List ℕ) (r : Text) : Type 0 where
+  pub answer : textOf r ≡ utf8 text
+  pub numbers : textNumbers r ≡ numbersOf 0 nothing (textAnswer text)
+
+-- text::judge_part
+pub record JudgesPart (bytes : List ℕ) (at count : ℕ) (r : Text) : Type 0 where
+  pub answer : textOf r ≡ utf8 (part bytes at count)
+  pub numbers : textNumbers r ≡ numbersOf 0 nothing (textAnswer (part bytes at count))
 
 -- text::is_utf8
 pub record IsText (bytes : List ℕ) (at count : ℕ) (r : Bool) : Type 0 where

@@ -23,6 +23,7 @@ use reader::Given;
 use reader::Reading;
 use reader::Verdict;
 use rules::Fault;
+use text::Text;
 use writer::Written;
 
 // A refusal: its place, and so many results of 0.
@@ -279,4 +280,21 @@ pub extern "C" fn ratlinery_epitaph_write(
         header::write_epitaph(flag0, flag1, flag2, status, out),
         answer,
     )
+}
+
+#[no_mangle]
+pub extern "C" fn ratlinery_utf8(text: &[u8], answer: &mut [u64]) -> u32
+    ensures number { λ r. ⌜ r ≡ number (Rules.textAnswer (now (text .entry))) ⌝ }
+    ensures answer { λ _. ⌜ now (answer .exit) ≡ sets (now (answer .entry)) 0 (told 0 nothing (Rules.textAnswer (now (text .entry)))) ⌝ }
+{
+    match text::judge(text) {
+        Text::Valid => {
+            words::put_value(answer, 0, 0);
+            0
+        }
+        Text::Broken(start) => {
+            words::put_value(answer, 0, start as u64);
+            13
+        }
+    }
 }

@@ -12,7 +12,7 @@ use lib.ListN.{length, length-append}
 use Rattle.rules.specs.declared.Place.the-variants.{Row, Byte}
 use Rattle.rules.specs.declared.Fault.{Fault}
 use Rattle.rules.specs.declared.Layout.{Layout}
-use Rattle.rules.specs.Refusals.{if_then_else_, fault, tableNotSound, tooDeep, textNotUtf8, accepted}
+use Rattle.rules.specs.Refusals.{if_then_else_, fault, tableNotSound, tooDeep, accepted}
 use Rattle.rules.specs.Bytes.{padded, ones32, ones64}
 use Rattle.rules.specs.TypeTable.{TypeTable, Edition, eightByteEnvelopes, envelopeSize, FidlType, bool, number, handle, array, vector, string, struct, box, table, union, none, typeOf, memberRows, Content, known, unknown, contentOf, below}
 use Rattle.rules.specs.Sizes.{Field, field, fieldsOf, fieldsSize, structSize, layoutAs, layoutBelow, layoutOf, sizeOf}
@@ -113,9 +113,9 @@ unfolding D.recordThen
 gives-record size read {continue} g =
     record { few = λ at next used. within-record (read at) (λ v. continue at v (at + size) next used) (λ v. g at v .few (at + size) next used) }
 
-gives-checked : (holds : List ℕ → Bool) (f : Fault) {part : Decoder} {most : ℕ} → Gives most part → Gives most (D.checked holds f part)
+gives-checked : (holds : List ℕ → Bool) (f : (at : ℕ) (values : List ℕ) → Fault) {part : Decoder} {most : ℕ} → Gives most part → Gives most (D.checked holds f part)
 unfolding D.checked
-gives-checked holds f g = record { few = λ at next used. within-require-after (λ n u values. holds values) f (g .few at next used) }
+gives-checked holds f g = record { few = λ at next used. within-require-after (λ n u values. holds values) _ (g .few at next used) }
 
 module _ (m : Message) where
   gives-fill : (count : ℕ) → Gives 0 (D.fill m count)
@@ -249,7 +249,7 @@ module _ (m : Message) where
     gives-after-string : (row at v : ℕ) → Gives 4 (W.afterString m d row at v)
     gives-after-string row at zero = gives-more (omega arith) gives-nothing
     gives-after-string row at (suc count) =
-        gives-deeper at _ (λ rows b g below. gives-claim vectorObject row (count * 1) (gives-checked isUtf8 (fault textNotUtf8 (Byte at)) (gives-elements 1 (λ i. gives-word 1) 0 count))) deep
+        gives-deeper at _ (λ rows b g below. gives-claim vectorObject row (count * 1) (gives-checked isUtf8 W.badText (gives-elements 1 (λ i. gives-word 1) 0 count))) deep
 
     gives-after-box : (element at v : ℕ) → Gives 4 (W.afterBox m d element at v)
     gives-after-box element at zero = gives-more (omega arith) gives-nothing

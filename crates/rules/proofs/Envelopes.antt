@@ -41,7 +41,7 @@ taken-before us rest =
     let l : length (us ++ rest) - length rest ≡ length us = rw length-append (omega arith) in
     rw l (take-append-seam us rest)
 
-module _ (m : Message) (holds : List ℕ → Bool) (f : Fault) {s : ℕ} {d : Decoder} {g : Encoder} (a : Twins m s d g) where
+module _ (m : Message) (holds : List ℕ → Bool) (f : (at : ℕ) (values : List ℕ) → Fault) {s : ℕ} {d : Decoder} {g : Encoder} (a : Twins m s d g) where
   checked-run : {at n u n₁ u₁ : ℕ} {vs rest : List ℕ} → holds (take (length vs - length rest) vs) ≡ true → Decodes d at n u n₁ u₁ vs rest
       → Decodes (D.checked holds f d) at n u n₁ u₁ vs rest
   unfolding D.checked
@@ -69,7 +69,7 @@ module _ (m : Message) (holds : List ℕ → Bool) (f : Fault) {s : ℕ} {d : De
     wellFormed = λ {vs} {n} {u} e. checked-form (checked-inv holds vs (g vs n u) e);
     decodesWhatWasEncoded = λ {vs} {n} {u} e h k l. checked-decodes (checked-inv holds vs (g vs n u) e) h k l;
     encodesWhatWasDecoded = λ {at} {n} {u} e h k rest.
-        let i = require-after-inv (λ n₁ u₁ vs. holds vs) f (d at n u) e in
+        let i = require-after-inv (λ n₁ u₁ vs. holds vs) _ (d at n u) e in
         checked-joined (i .1) (a .encodesWhatWasDecoded (i .0) h k rest);
   }
 

@@ -125,9 +125,9 @@ module _ (m : Message) where
   unfolding decodeWord
   word-true width = record-true width (readNumber m width anyPattern) (λ at v. D.nothing) (λ at v e. nothing-true)
 
-  pub checked-true : (holds : List ℕ → Bool) (f : Fault) {g : Decoder} → Truthful g → Truthful (D.checked holds f g)
+  pub checked-true : (holds : List ℕ → Bool) (f : (at : ℕ) (values : List ℕ) → Fault) {g : Decoder} → Truthful g → Truthful (D.checked holds f g)
   unfolding D.checked
-  checked-true holds f {g} x = record { met = λ at next used. true-require-after (λ n u values. holds values) f (g at next used) (x .met at next used) }
+  checked-true holds f {g} x = record { met = λ at next used. true-require-after (λ n u values. holds values) _ (g at next used) (x .met at next used) }
 
   pub fill-true : (count : ℕ) → Truthful (D.fill m count)
   unfolding D.fill

@@ -1,6 +1,7 @@
 pub mod Cases
 pub mod Tests
 pub mod Bytes
+pub mod Text
 pub mod Trace
 pub mod Results
 pub mod Twins

@@ -8,7 +8,7 @@ use borrow.Author.Tests.{leb-true, ltb-true}
 use lib.Dec.{leb, ltb, eqb}
 use Rattle.rules.specs.declared.Place.the-variants.{Row, Byte}
 use Rattle.rules.specs.declared.Layout.{Layout}
-use Rattle.rules.specs.Refusals.{if_then_else_, fault, tableNotSound, tooDeep, requiredAbsent, textNotUtf8, envelopeFormWrong, handlesImpossible}
+use Rattle.rules.specs.Refusals.{if_then_else_, fault, tableNotSound, tooDeep, requiredAbsent, envelopeFormWrong, handlesImpossible}
 use Rattle.rules.specs.Bytes.{word, ones32, ones64}
 use Rattle.rules.specs.TypeTable.{Edition, eightByteEnvelopes, envelopeSize, FidlType, bool, number, handle, array, vector, string, struct, box, table, union, none, typeOf, memberRows, Content, known, unknown, contentOf, below}
 use Rattle.rules.specs.Sizes.{Field, field, fieldsOf, layoutBelow, sizeOf}
@@ -106,7 +106,7 @@ module _ (m : Message) where
     after-string-true row at zero = nothing-true m
     after-string-true row at (suc count) =
         deeper-true at _ (λ rows below x b.
-        claim-true m vectorObject row (count * 1) (checked-true m isUtf8 (fault textNotUtf8 (Byte at)) (elements-true m 1 (λ i. decodeWord m 1) (λ i. word-true m 1) 0 count))) a
+        claim-true m vectorObject row (count * 1) (checked-true m isUtf8 W.badText (elements-true m 1 (λ i. decodeWord m 1) (λ i. word-true m 1) 0 count))) a
 
     after-box-true : (element at v : ℕ) → Truthful m (W.afterBox m d element at v)
     after-box-true element at zero = nothing-true m

@@ -10,7 +10,7 @@ use lib.ListN.{length}
 use Rattle.rules.specs.declared.Place.the-variants.{Row, Byte}
 use Rattle.rules.specs.declared.Fault.{Fault}
 use Rattle.rules.specs.declared.Layout.{Layout}
-use Rattle.rules.specs.Refusals.{if_then_else_, fault, objectDoesNotFit, tableNotSound, tooDeep, textNotUtf8}
+use Rattle.rules.specs.Refusals.{if_then_else_, fault, objectDoesNotFit, tableNotSound, tooDeep}
 use Rattle.rules.specs.Bytes.{Octets, padded, ones32, ones64}
 use Rattle.rules.specs.TypeTable.{Edition, eightByteEnvelopes, envelopeSize, FidlType, bool, number, handle, array, vector, string, struct, box, table, union, none, typeOf, memberRows, Content, known, unknown, contentOf, below}
 use Rattle.rules.specs.Sizes.{Field, field, fieldsOf, fieldsSize, structSize, layoutAs, layoutBelow, layoutOf, sizeOf}
@@ -163,7 +163,7 @@ module _ (m : Message) (oct : Octets (m .bytes)) (short : length (m .bytes) ≤ 
     twins-after-string : (row at v : ℕ) → Twins m 0 (W.afterString m d row at v) (R.afterString (m .table) e v)
     twins-after-string row at zero = twins-nothing m
     twins-after-string row at (suc count) =
-        twins-deeper m 0 at _ _ (λ F G o o₂ a b. twins-claim m short vectorObject row refl (twins-checked m isUtf8 (fault textNotUtf8 (Byte at))
+        twins-deeper m 0 at _ _ (λ F G o o₂ a b. twins-claim m short vectorObject row refl (twins-checked m isUtf8 W.badText
         (twins-elements m 1 (λ i. decodeWord m 1) (λ i. encodeWord 1) (λ i. twins-word m oct 1) 0 count))) g
 
     twins-after-box : (element at v : ℕ) → Twins m 0 (W.afterBox m d element at v) (R.afterBox (m .table) e element v)

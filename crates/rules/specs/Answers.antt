@@ -6,11 +6,12 @@ use lib.Dec.{leb, ltb, eqb}
 use lib.ListN.{length}
 use Rattle.rules.specs.declared.Place.the-variants.{Byte, Index, Amount}
 use Rattle.rules.specs.declared.Layout.{Layout}
-use Rattle.rules.specs.Refusals.{fault, placeNumber, messageTooLong, tooManyHandles, bytesLeft, handlesLeft, roomTooSmall, notAValue, Answer, accepted, refused, require, andThen, lentAfter}
+use Rattle.rules.specs.Refusals.{fault, placeNumber, messageTooLong, tooManyHandles, textNotUtf8, bytesLeft, handlesLeft, roomTooSmall, notAValue, Answer, accepted, refused, require, andThen, lentAfter}
 use Rattle.rules.specs.Bytes.{zeros}
 use Rattle.rules.specs.TypeTable.{TypeTable, rowCount}
 use Rattle.rules.specs.Sizes.{layoutOf, sizeOf}
 use Rattle.rules.specs.Sound.{soundness, rootAllowed, requireRow}
+use Rattle.rules.specs.Text.{isUtf8, brokenAt}
 use Rattle.rules.specs.Trace.{Event, objectList, primaryObject}
 use Rattle.rules.specs.Decode as D
 use Rattle.rules.specs.Decode.{Message, Decoded, went, stopped}
@@ -114,6 +115,12 @@ outputAfter answer output = lentAfter (andThen answer (λ w. accepted (w .bytes)
 unfoldable pub layoutAnswer : TypeTable → (row : ℕ) → Answer Layout
 layoutAnswer t row = andThen (soundness t) (λ sound. requireRow (ltb row (rowCount t)) row (accepted (layoutOf t row)))
 
+-- ---- text
+
+-- W-201: 13 of a text by itself, at "the offset of the first byte of the first sequence that RFC 3629 doesn't allow".
+unfoldable pub textAnswer : (bytes : List ℕ) → Answer (Unit {0})
+textAnswer bytes = require (isUtf8 bytes) (fault textNotUtf8 (Byte (brokenAt bytes))) (accepted tt)
+
 -- ---- the numbers answered
 
 -- What an operation answers in document 01's numbers: number and place, and the other numbers, its values.
@@ -127,7 +134,7 @@ abbrev pub numbersOf : {A : Type 0} (count : ℕ) (values : A → List ℕ) → 
 numbersOf count values (accepted a) = record { number = 0; place = 0; values = values a }
 numbersOf count values (refused f) = record { number = f .number; place = placeNumber (f .place); values = zeros count }
 
--- The values: of the checker none,
+-- The values: of the checker and of the text check none,
 abbrev pub nothing : Unit {0} → List ℕ
 nothing u = []
 

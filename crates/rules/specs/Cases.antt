@@ -195,6 +195,11 @@ abbrev pub unionsAround : (outer handles : ℕ) → List ℕ
 unionsAround zero handles = bytesOf 8 2 ++ unknownHere handles
 unionsAround (suc outer) handles = bytesOf 8 1 ++ (bytesOf 8 (16 + outer * 16) ++ unionsAround outer handles)
 
+-- A message of the pad's table with a string alone (row 2, ordinal 3), whose object stands at 56.
+abbrev pub named : (count : ℕ) (object : List ℕ) → List ℕ
+named count object =
+    bytesOf 8 3 ++ (present ++ (eightZeros ++ (eightZeros ++ (bytesOf 8 (16 + length object) ++ (bytesOf 8 count ++ (present ++ object))))))
+
 abbrev pub requests : List Case
 requests =
     -- W-208: "A wrong handle number is 28," in line
@@ -219,6 +224,16 @@ requests =
     ∷ writes padTable 4 (4 ∷ 0 ∷ 0 ∷ 0 ∷ 1 ∷ 0 ∷ 2 ∷ 7 ∷ []) 26 6
     ∷ writes padTable 4 (4 ∷ 0 ∷ 0 ∷ 0 ∷ 1 ∷ 8 ∷ 2 ∷ 7 ∷ []) 0 0
     ∷ writes padTable 4 (4 ∷ 0 ∷ 0 ∷ 0 ∷ 1 ∷ 8 ∷ 3 ∷ 7 ∷ []) 26 6
+    -- W-201: "the first byte of the first sequence that RFC 3629 doesn't allow": a lead byte before one that it does not ask for, a tail by
+    -- itself,
+    ∷ checks padTable 4 (named 3 (0x41 ∷ 0xC3 ∷ 0x28 ∷ 0 ∷ 0 ∷ 0 ∷ 0 ∷ 0 ∷ [])) 0 13 57
+    ∷ checks padTable 4 (named 3 (0x41 ∷ 0x42 ∷ 0xBF ∷ 0 ∷ 0 ∷ 0 ∷ 0 ∷ 0 ∷ [])) 0 13 58
+    ∷ checks padTable 4 (named 3 (0x41 ∷ 0xC3 ∷ 0xA9 ∷ 0 ∷ 0 ∷ 0 ∷ 0 ∷ 0 ∷ [])) 0 0 0
+    -- and "a sequence cut off by the string's end".
+    ∷ checks padTable 4 (named 5 (0x41 ∷ 0xC3 ∷ 0xA9 ∷ 0xE2 ∷ 0x82 ∷ 0 ∷ 0 ∷ 0 ∷ [])) 0 13 59
+    -- "The number, its order and the writer's 26 stay": fill before text, 26 at the count.
+    ∷ checks padTable 4 (named 3 (0x41 ∷ 0xC3 ∷ 0x28 ∷ 0 ∷ 0 ∷ 0 ∷ 0 ∷ 1 ∷ [])) 0 7 63
+    ∷ writes padTable 4 (3 ∷ 0 ∷ 0 ∷ 1 ∷ 4 ∷ 0x41 ∷ 0xC3 ∷ 0x28 ∷ []) 26 4
     ∷ []
 
 abbrev pub RequestsHold : Type 0

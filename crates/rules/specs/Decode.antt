@@ -24,6 +24,10 @@ pub data Decoded : Type 0 where
   went : (next used : ℕ) (values : List ℕ) (trace : List Event) → Decoded
   stopped : Fault → (values : List ℕ) (trace : List Event) → Decoded
 
+abbrev pub valuesOf : Decoded → List ℕ
+valuesOf (went next used values trace) = values
+valuesOf (stopped f values trace) = values
+
 abbrev pub traceOf : Decoded → List Event
 traceOf (went next used values trace) = trace
 traceOf (stopped f values trace) = trace
@@ -93,9 +97,10 @@ recordGoes (wrong f) k = stopped f [] []
 unfoldable pub recordThen : (size : ℕ) → (read : ℕ → ReadRecord) → ((record-at value : ℕ) → Decoder) → Decoder
 recordThen size read continue at next used = recordGoes (read at) (λ v. continue at v (at + size) next used)
 
--- A test of the values that a part gave, after it.
-unfoldable pub checked : (List ℕ → Bool) → Fault → Decoder → Decoder
-checked holds f part at next used = requireAfter (λ n u values. holds values) f (part at next used)
+-- A test of the values that a part gave, after it. Its refusal may name a place among them.
+unfoldable pub checked : (List ℕ → Bool) → ((at : ℕ) (values : List ℕ) → Fault) → Decoder → Decoder
+checked holds f part at next used =
+    requireAfter (λ n u values. holds values) (f at (valuesOf (part at next used))) (part at next used)
 
 -- ---- depth
 

@@ -2,19 +2,25 @@
 -- Assumes nothing.
 use mathlib.Core.Bool.{true}
 use mathlib.Core.List.{List, [], _∷_}
-use Prim.Native.Nat.{ℕ, zero, suc, _*_}
+use Prim.Native.Nat.{ℕ, zero, suc, _+_, _*_}
 use lib.Dec.{eqb}
 use Rattle.rules.specs.declared.Place.the-variants.{Row, Byte}
+use Rattle.rules.specs.declared.Fault.{Fault}
 use Rattle.rules.specs.declared.Layout.{Layout}
 use Rattle.rules.specs.Refusals.{fault, tableNotSound, textNotUtf8}
 use Rattle.rules.specs.Bytes.{ones32, ones64}
 use Rattle.rules.specs.TypeTable.{envelopeSize, FidlType, bool, number, handle, array, vector, string, struct, box, table, union, none, typeOf, memberRows, Content, contentOf, below}
 use Rattle.rules.specs.Sizes.{Field, field, fieldsOf, layoutBelow, sizeOf}
-use Rattle.rules.specs.Text.{isUtf8}
+use Rattle.rules.specs.Text.{isUtf8, brokenAt}
 use Rattle.rules.specs.Trace.{presentHandle, vectorObject, boxedObject, envelopesObject}
 use Rattle.rules.specs.Decode.{Message, Decoder, nothing, refuse, sequence, elements, recordThen, checked, Deeper, spent, deeper, oneDeeper, fill, claim, takeHandles, optionalEnvelope, lastPresent, zeroEnvelope, presentEnvelope}
 use Rattle.rules.specs.Records.{boolPattern, ordinalPattern, readNumber, readPresence, readCount, readTable}
 use Rattle.rules.specs.Envelope.{decodeWord, decodeContent}
+
+-- 13. W-201: its place "becomes the offset of the first byte of the first sequence that RFC 3629 doesn't allow"; the text starts
+-- at `start`.
+abbrev pub badText : (start : ℕ) (text : List ℕ) → Fault
+badText start text = fault textNotUtf8 (Byte (start + brokenAt text))
 
 module _ (m : Message) where
   -- "Struct: each member, then the fill after it." `inner` walks and lays out the rows of smaller numbers.
@@ -46,7 +52,7 @@ module _ (m : Message) where
   afterString below row at zero = nothing
   afterString below row at (suc count) =
       oneDeeper below at (λ rows b.
-      claim m vectorObject row (count * 1) (checked isUtf8 (fault textNotUtf8 (Byte at)) (elements 1 (λ i. decodeWord m 1) 0 count)))
+      claim m vectorObject row (count * 1) (checked isUtf8 badText (elements 1 (λ i. decodeWord m 1) 0 count)))
 
   -- "Box: 8-byte presence. Tests 9, 5, claim": from 5 on.
   abbrev pub afterBox : Deeper → (element at value : ℕ) → Decoder

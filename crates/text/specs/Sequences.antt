@@ -32,4 +32,4 @@ sequenceOf (lead ∷ after) = sequenceLed (leads forms lead) after
 pub record Passes (text : List ℕ) (from next : ℕ) : Type 0 where
   pub onward : from ≤ next
   pub within : next ≤ length text
-  pub alike : follows (drop from text) (led []) ≡ follows (drop next text) (led [])
+  pub alike : follows (drop from text) from from (led []) ≡ follows (drop next text) next next (led [])

@@ -1,17 +1,36 @@
-// Text: is a part of a message UTF-8, by RFC 3629's byte ranges (13; the writer's 26).
+// Text: is a part of a message UTF-8, by RFC 3629's byte ranges, and where is it not (13; the writer's 26).
 ghost use mathlib.Core.Path.{_≡_};
 ghost use mathlib.Core.List.{[], _∷_};
 ghost use Prim.Native.Nat.{ℕ, _≤_, _<_};
 ghost use lib.ListN.{length, getD, drop};
 ghost use Rattle.rules.specs.Bytes.{part};
-ghost use Rattle.rules.specs.Text.{tail, holds, isUtf8};
+ghost use Rattle.rules.specs.Text.{tail, holds, utf8, isUtf8};
+ghost use Rattle.rules.specs.Answers.{textAnswer, numbersOf, nothing};
+ghost use Rattle.text.specs.Answers.{textOf, textNumbers};
 ghost use Rattle.text.specs.Sequences.{Tail, sequenceOf, Passes};
+
+// What bytes are: text; or not, and then where the first sequence starts that is not allowed.
+pub enum Text {
+    Valid,
+    Broken(usize),
+}
 
 // Are the `count` bytes of a message from a place on UTF-8? What would lie past the message's end is no part of it.
 pub fn is_utf8(bytes: &[u8], at: usize, count: usize) -> bool
     ensures { λ r. ⌜ r ≡ isUtf8 (part (now (bytes .entry)) at count) ⌝ }
 {
-    is_text(part_of(bytes, at, count))
+    match judge_part(bytes, at, count) {
+        Text::Valid => true,
+        Text::Broken(_) => false,
+    }
+}
+
+// The same with the place, which counts from where the part starts.
+pub fn judge_part(bytes: &[u8], at: usize, count: usize) -> Text
+    ensures answer { λ r. ⌜ textOf r ≡ utf8 (part (now (bytes .entry)) at count) ⌝ }
+    ensures numbers { λ r. ⌜ textNumbers r ≡ numbersOf 0 nothing (textAnswer (part (now (bytes .entry)) at count)) ⌝ }
+{
+    judge(part_of(bytes, at, count))
 }
 
 fn part_of(bytes: &[u8], at: usize, count: usize) -> &[u8]
@@ -27,10 +46,10 @@ fn part_of(bytes: &[u8], at: usize, count: usize) -> &[u8]
     }
 }
 
-// UTF8-octets: runs of ASCII, and one longer sequence after the other. Where it answers false, `at` is the lead byte of the
-// first bad one.
-fn is_text(text: &[u8]) -> bool
-    ensures { λ r. ⌜ r ≡ isUtf8 (now (text .entry)) ⌝ }
+// UTF8-octets: runs of ASCII, and one longer sequence after the other.
+pub fn judge(text: &[u8]) -> Text
+    ensures answer { λ r. ⌜ textOf r ≡ utf8 (now (text .entry)) ⌝ }
+    ensures numbers { λ r. ⌜ textNumbers r ≡ numbersOf 0 nothing (textAnswer (now (text .entry))) ⌝ }
 {
     let mut at = 0;
     while at < text.len() {
@@ -40,11 +59,11 @@ fn is_text(text: &[u8]) -> bool
         }
         let count = byte_sequence(text, at);
         if count == 0 {
-            return false;
+            return Text::Broken(at);
         }
         at += count;
     }
-    true
+    Text::Valid
 }
 
 // Are numbers UTF-8, each of them a byte? The writer judges text so, before it has written any.

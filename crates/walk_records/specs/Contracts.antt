@@ -6,9 +6,12 @@ use mathlib.Core.Path.{_≡_}
 use Prim.Native.Nat.{ℕ, _+_, _-_, _*_, _/_, _%_, _≤_}
 use lib.Dec.{eqb}
 use lib.ListN.{length}
+use Rattle.rules.specs.declared.Place.the-variants.{Byte}
+use Rattle.rules.specs.Refusals.{fault, textNotUtf8}
 use Rattle.rules.specs.Bytes.{word}
 use Rattle.rules.specs.TypeTable.{TypeTable, eightByteEnvelopes, Content, known, contentOf}
 use Rattle.rules.specs.Sizes.{sizeOf}
+use Rattle.rules.specs.Text.{Text, text, broken}
 use Rattle.rules.specs.Trace.{envelopesObject, unknownContent}
 use Rattle.rules.specs.Decode as D
 use Rattle.rules.specs.Decode.{Decoder}
@@ -18,6 +21,7 @@ use Rattle.rules.specs.Walk as W
 use Rattle.ordinals.specs.Ordinals.{ordinalIs, ContentIs}
 use Rattle.walk_leaves.specs.declared.cursor.Cursor.{Cursor}
 use Rattle.walk_leaves.specs.declared.cursor.Walked.{Walked}
+use Rattle.walk_leaves.specs.declared.cursor.Walked.the-variants.{On, Refused}
 use Rattle.walk_records.specs.declared.records.Count.{Count}
 use Rattle.walk_records.specs.declared.records.Opened.{Opened}
 use Rattle.walk_records.specs.declared.envelopes.Member.{Member}
@@ -64,6 +68,11 @@ module _ (bytes : List ℕ) (depth : ℕ) (values values′ objects objects′ :
       (t : TypeTable) (handles : ℕ) (content : ℕ → Content) → t .edition ≡ eightByteEnvelopes → Ask (length bytes) handles 16 at c
       → Opens (length bytes) handles 16 values values′ objects objects′ c
       (tableAt (message t bytes handles) depth row content at (c .next) (c .handles)) (λ x. x .count * 8) (envelopesOf (message t bytes handles) depth row content) r
+
+-- What comes of the walk of a text that starts at a byte of the message: it goes on from a cursor, or is refused where the text breaks.
+abbrev pub textJudged : Text → (start : ℕ) → Cursor → Walked
+textJudged text start c = On c
+textJudged (broken offset) start c = Refused (fault textNotUtf8 (Byte (start + offset)))
 
 -- Unknown content takes handles, of so many that there are.
 module _ (bytes : List ℕ) (handles depth : ℕ) (values values′ objects objects′ : List ℕ) (at : ℕ) (c : Cursor) where

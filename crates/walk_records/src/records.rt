@@ -1,10 +1,14 @@
 // Records that lead out of line: what stands in line is judged, given and claimed here; what it leads to is walked by the
 // functions of cycle.rt.
+ghost use mathlib.Core.Path.{_≡_};
 ghost use Prim.Native.Nat.{_≤_, _<_};
 ghost use lib.ListN.{length};
+ghost use Rattle.rules.specs.Bytes.{part};
+ghost use Rattle.rules.specs.Text.{utf8};
 ghost use Rattle.walk_records.specs.Opening.{AskBytes, HasCount, Reaches};
-ghost use Rattle.walk_records.specs.Contracts.{CountAt, DeeperOpens, CountedOpens, StringDid, BoxOpens, EnvelopesOpen, TableOpens};
+ghost use Rattle.walk_records.specs.Contracts.{CountAt, DeeperOpens, CountedOpens, StringDid, textJudged, BoxOpens, EnvelopesOpen, TableOpens};
 use rules::Fault;
+use text::Text;
 use walk_leaves::claims::claim;
 use walk_leaves::cursor::Cursor;
 use walk_leaves::cursor::Walked;
@@ -146,11 +150,18 @@ pub fn string(
             let start = x.start;
             let count = x.count;
             let e = numbers(bytes, values, 1, count, start, x.cursor);
-            if text::is_utf8(bytes, start, count) {
-                return Walked::On(e);
-            }
-            refused(13, at)
+            judged_text(bytes, start, count, e)
         }
+    }
+}
+
+// A text that was given is judged: 13 where its first sequence starts that is not allowed.
+fn judged_text(bytes: &[u8], start: usize, count: usize, c: Cursor) -> Walked
+    ensures { λ r. ⌜ r ≡ textJudged (utf8 (part (now (bytes .entry)) start count)) start c ⌝ }
+{
+    match text::judge_part(bytes, start, count) {
+        Text::Valid => Walked::On(c),
+        Text::Broken(offset) => refused(13, start + offset),
     }
 }
 

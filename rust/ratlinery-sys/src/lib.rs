@@ -122,4 +122,6 @@ unsafe extern "C" {
         answer: *mut u64,
         answer_len: usize,
     ) -> u32;
+
+    pub fn ratlinery_utf8(text: *const u8, text_len: usize, answer: *mut u64, answer_len: usize) -> u32;
 }

@@ -188,3 +188,9 @@ pub fn epitaph_write(flags: [u8; 3], status: i32, out: &mut [u8], answer: &mut [
         )
     }
 }
+
+#[inline]
+pub fn utf8(text: &[u8], answer: &mut [u64]) -> u32 {
+    // SAFETY: see above.
+    unsafe { c::ratlinery_utf8(text.as_ptr(), text.len(), answer.as_mut_ptr(), answer.len()) }
+}

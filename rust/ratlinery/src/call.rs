@@ -68,3 +68,9 @@ pub(crate) fn epitaph_write(epitaph: Epitaph, out: &mut [u8]) -> Result<u64, Ref
     let number = slices::epitaph_write(epitaph.flags, epitaph.status, out, &mut answer);
     judged(Side::Reader, number, answer[0]).map(|()| answer[1])
 }
+
+pub(crate) fn utf8(text: &[u8]) -> Result<(), Refusal> {
+    let mut answer = [0; 1];
+    let number = slices::utf8(text, &mut answer);
+    judged(Side::Reader, number, answer[0])
+}

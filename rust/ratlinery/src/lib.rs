@@ -60,9 +60,11 @@ mod header;
 mod refusal;
 pub mod row;
 mod table;
+mod text;
 mod tree;
 
 pub use header::{Epitaph, Header};
 pub use refusal::{Place, Reason, Refusal};
 pub use table::{Layout, Object, ObjectKind, Reading, TypeTable, Written};
+pub use text::check_utf8;
 pub use tree::{Content, Member, Members, Parts, Raw, Tree, Unknown, Value};

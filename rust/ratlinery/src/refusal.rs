@@ -95,7 +95,7 @@ impl Reason {
 pub enum Place {
     /// A row of the type table; 256 stands for the length of a list.
     Row(u64),
-    /// A byte of the message.
+    /// A byte of the message, or of a text by itself.
     Byte(u64),
     /// A number of the value list.
     Index(u64),

@@ -2,6 +2,7 @@
 
 use crate::refusal::{Answer, refuse, require};
 use crate::schema::{Field, Kind, Schema};
+use crate::text;
 use crate::tree::{Content, Elements, Node};
 
 const LONGEST_MESSAGE: usize = 65_536;
@@ -190,7 +191,7 @@ impl<'m> Decoder<'_, 'm> {
             }
             Kind::String { largest, optional } => match self.counted(1, largest, optional, at, depth)? {
                 None => Ok(Node::Absent),
-                Some((start, length)) => self.text(row, at, start, length),
+                Some((start, length)) => self.text(row, start, length),
             },
             Kind::Box { inner } => self.boxed(inner, at, depth),
             Kind::Table { first, end } => self.table(row, first, end, at, depth),
@@ -280,12 +281,10 @@ impl<'m> Decoder<'_, 'm> {
         Ok(Node::Vector { row, at, length, elements })
     }
 
-    fn text(&mut self, row: usize, record: usize, at: usize, length: usize) -> Answer<Node<'m>> {
+    fn text(&mut self, row: usize, at: usize, length: usize) -> Answer<Node<'m>> {
         self.values += length;
-        match std::str::from_utf8(self.part(at, length)) {
-            Ok(text) => Ok(Node::Text { row, at, text }),
-            Err(_) => refuse(13, record),
-        }
+        let text = text::text(self.part(at, length), at)?;
+        Ok(Node::Text { row, at, text })
     }
 
     fn boxed(&mut self, inner: usize, at: usize, depth: u32) -> Answer<Node<'m>> {

@@ -1,7 +1,7 @@
 //! The functions of include/ratlinery.h with slices for pointers and lengths. A test can put the same input through two
 //! implementations and compare the numbers returned and every buffer.
 
-use crate::{Answer, Epitaph, Header, Message, Schema, refusal};
+use crate::{Answer, Epitaph, Header, Message, Schema, check_utf8, refusal};
 
 /// The two lists of a type table, as document 01 writes them.
 #[derive(Clone, Copy, Debug)]
@@ -52,6 +52,8 @@ pub trait Face {
     fn header_write(&self, header: Header, out: &mut [u8], answer: &mut [u64]) -> u32;
 
     fn epitaph_write(&self, epitaph: Epitaph, out: &mut [u8], answer: &mut [u64]) -> u32;
+
+    fn utf8(&self, text: &[u8], answer: &mut [u64]) -> u32;
 }
 
 /// The reference, by that face. The type table is judged in each call.
@@ -129,6 +131,10 @@ impl Face for Reference {
 
     fn epitaph_write(&self, epitaph: Epitaph, out: &mut [u8], answer: &mut [u64]) -> u32 {
         store(put(&epitaph.bytes(), out), answer)
+    }
+
+    fn utf8(&self, text: &[u8], answer: &mut [u64]) -> u32 {
+        store(check_utf8(text).map(|()| []), answer)
     }
 }
 

@@ -12,6 +12,7 @@ mod flatten;
 mod header;
 mod refusal;
 mod schema;
+mod text;
 mod tree;
 pub mod vectors;
 
@@ -32,6 +33,11 @@ pub struct Lengths {
 pub struct Written {
     pub bytes: usize,
     pub handles: u64,
+}
+
+/// Judges a text by itself.
+pub fn check_utf8(bytes: &[u8]) -> Answer<()> {
+    text::text(bytes, 0).map(|_| ())
 }
 
 impl Schema<'_> {

@@ -9,7 +9,7 @@ use std::collections::BTreeMap;
 use std::path::Path;
 
 /// The files that are run.
-pub const FILES: [&str; 8] = [
+pub const FILES: [&str; 9] = [
     "text.txt",
     "base.txt",
     "conformance.txt",
@@ -18,6 +18,7 @@ pub const FILES: [&str; 8] = [
     "W-203.txt",
     "W-208.txt",
     "W-209.txt",
+    "W-201.txt",
 ];
 
 /// What stands in a buffer before a call.
@@ -66,7 +67,7 @@ fn run(face: &dyn Face, line: &str) -> Result<String, String> {
     let expected: Vec<&str> = answer.split(' ').collect();
     let case = Case { face, inputs, expected };
     match operation {
-        "is_utf8" => case.is_utf8(),
+        "utf8" => case.utf8(),
         "sound" => case.sound(),
         "layout" => case.layout(),
         "check" => case.check(values),
@@ -161,8 +162,8 @@ impl Case<'_> {
         self.expected[..2].join(" ")
     }
 
-    /// A text, as the one member of a struct: read (13) and written (26).
-    fn is_utf8(&self) -> Result<(), String> {
+    /// A text by itself, and as the one member of a struct: read (13, from its object's offset on) and written (26).
+    fn utf8(&self) -> Result<(), String> {
         let message = bytes(self.inputs[0]);
         let from = self.number(1).min(message.len() as u64) as usize;
         let count = self.number(2).min((message.len() - from) as u64) as usize;
@@ -174,10 +175,13 @@ impl Case<'_> {
         wire.resize(wire.len().next_multiple_of(8), 0);
         let values: Vec<u64> =
             std::iter::once(count as u64 + 1).chain(text.iter().map(|&byte| byte.into())).collect();
-        let good = self.expected[0] == "1";
+        let (_, judged, _) = self.answered(0, |answer| self.face.utf8(text, answer))?;
+        same("utf8", judged, &self.verdict())?;
+        let good = self.expected[0] == "0";
+        let place = if good { 0 } else { 16 + list::<u64>(self.expected[1])[0] };
         let (_, checked, _) = self
             .answered(0, |answer| self.face.check(table, 1, Message { bytes: &wire, handles: 0 }, answer))?;
-        same("check", checked, if good { "0 0" } else { "13 0" })?;
+        same("check", checked, &format!("{} {place}", self.expected[0]))?;
         let mut out = vec![UNTOUCHED; wire.len()];
         let (_, written, _) =
             self.answered(2, |answer| self.face.write(table, 1, &values, &mut out, answer))?;

@@ -2,7 +2,7 @@
 
 use crate::compare::{Compare, Different, Given, MOST_RESULTS};
 use crate::generate::table::Lists;
-use crate::generate::{damage, header, table, values};
+use crate::generate::{damage, header, table, text, values};
 use crate::random::Random;
 use ratlinery_reference::face::Table;
 use ratlinery_reference::{Epitaph, Header, Message};
@@ -15,12 +15,13 @@ pub fn run(compare: &mut Compare, seed: u64, case: u64) -> Result<(), (Descripti
     let mut random = Random::of_case(seed, case);
     compare.answer_room = if random.one_in(4) { random.below(MOST_RESULTS + 2) } else { MOST_RESULTS };
     compare.shift = random.below(8);
-    match random.below(21) {
+    match random.below(22) {
         0 => header_read(&mut random, compare),
         1 => header_write(&mut random, compare),
         2 => epitaph_write(&mut random, compare),
         3 => layout(&mut random, compare),
-        4..10 => write(&mut random, compare),
+        4 => utf8(&mut random, compare),
+        5..11 => write(&mut random, compare),
         _ => read(&mut random, compare),
     }
 }
@@ -105,6 +106,15 @@ fn epitaph_write_all(compare: &mut Compare, epitaph: Epitaph, room: usize) -> Re
         return Ok(());
     }
     Err(format!("what is written is not read as it was: {given:?}"))
+}
+
+/// A text by itself, at any byte.
+fn utf8(random: &mut Random, compare: &mut Compare) -> Result<(), (Description, Different)> {
+    let mut bytes = text::damaged(random, 300);
+    let (start, count) = (random.below(8), bytes.len());
+    bytes.splice(..0, vec![0xa5; start]);
+    let described = || format!("utf8 {} {start} {count}", hex(&bytes));
+    compare.utf8(&bytes[start..]).map(|_| ()).map_err(|different| (described(), different))
 }
 
 /// A value list, damaged more often than not, into rooms around what it needs.

@@ -220,4 +220,8 @@ impl<'f> Compare<'f> {
         out.judge("epitaph_write", count)?;
         Ok((given, out.given(count).to_vec()))
     }
+
+    pub fn utf8(&mut self, text: &[u8]) -> Result<Given, Different> {
+        self.both("utf8", 0, |face, _, answer| face.utf8(text, answer))
+    }
 }

@@ -71,4 +71,8 @@ impl Face for Library {
     fn epitaph_write(&self, epitaph: Epitaph, out: &mut [u8], answer: &mut [u64]) -> u32 {
         slices::epitaph_write(epitaph.flags, epitaph.status, out, answer)
     }
+
+    fn utf8(&self, text: &[u8], answer: &mut [u64]) -> u32 {
+        slices::utf8(text, answer)
+    }
 }

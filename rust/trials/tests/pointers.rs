@@ -39,6 +39,9 @@ fn every_list_of_length_0_may_be_null() {
         assert_eq!(answer, [16, 0, 0]);
         assert_eq!(c::ratlinery_epitaph_write(0, 0, 0, -1, null_mut(), 0, word, 2), 22);
         assert_eq!(answer, [24, 0, 0]);
+        assert_eq!(c::ratlinery_utf8(null(), 0, word, 1), 0);
+        assert_eq!(answer, [0, 0, 0]);
+        assert_eq!(c::ratlinery_utf8([0xff].as_ptr(), 1, null_mut(), 0), 13);
     }
 }
 

@@ -55,7 +55,7 @@ fn given(tally: &Tally, function: &str, number: u32) -> u64 {
 }
 
 /// Each function with the numbers that it can give.
-fn can_give() -> [(&'static str, Vec<u32>); 9] {
+fn can_give() -> [(&'static str, Vec<u32>); 10] {
     let judged: Vec<u32> = (0..=21).chain([28, 35]).collect();
     let read: Vec<u32> = judged.iter().copied().chain([22]).collect();
     [
@@ -68,6 +68,7 @@ fn can_give() -> [(&'static str, Vec<u32>); 9] {
         ("header_read", vec![0, 3, 6, 7, 20, 23, 24, 25]),
         ("header_write", vec![0, 22, 24, 25]),
         ("epitaph_write", vec![0, 22]),
+        ("utf8", vec![0, 13]),
     ]
 }
 

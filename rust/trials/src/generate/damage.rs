@@ -1,6 +1,7 @@
 //! Damage: small changes to a type table, a value list or a message, of the kinds that tests are about.
 
 use super::table::Lists;
+use super::text;
 use crate::random::Random;
 
 /// Numbers at which something changes.
@@ -90,8 +91,17 @@ pub fn message(random: &mut Random, message: &mut Vec<u8>) {
             let at = random.below(message.len());
             message[at] = random.word() as u8;
         }
+        8 if !message.is_empty() => letter(random, message),
         _ if message.len() >= 8 => word(random, message),
         _ => message.push(0),
+    }
+}
+
+/// What may be a letter becomes a byte that few texts have there.
+fn letter(random: &mut Random, message: &mut [u8]) {
+    let from = random.below(message.len());
+    if let Some(byte) = message[from..].iter_mut().find(|byte| byte.is_ascii_graphic()) {
+        *byte = random.pick(&text::EDGES);
     }
 }
 

@@ -1,6 +1,7 @@
 //! Random value lists of a type. Most are values; some go too deep, hold bad text or have too many handles.
 
 use super::table::Lists;
+use super::text;
 use crate::random::Random;
 
 /// Past this depth nothing more is made: the list is refused before.
@@ -105,7 +106,7 @@ impl Maker<'_> {
         if optional == 1 && !self.wants(depth) {
             return self.values.push(0);
         }
-        let text = text(self.random, largest as usize);
+        let text = text::text(self.random, largest as usize);
         self.values.push(text.len() as u64 + 1);
         self.values.extend(text.iter().map(|&byte| u64::from(byte)));
     }
@@ -163,39 +164,4 @@ impl Maker<'_> {
         }
         (0..words).for_each(|_| self.number(8));
     }
-}
-
-/// A text of at most so many bytes: ASCII, or any characters, or, seldom, no UTF-8 at all.
-fn text(random: &mut Random, largest: usize) -> Vec<u8> {
-    let most = if random.one_in(40) { 300 } else { 12 };
-    let length = random.below(most + 1).min(largest);
-    let mut text = Vec::new();
-    while text.len() < length {
-        let character = match random.below(6) {
-            0 => random.pick(&[
-                '\0',
-                'é',
-                '\u{7ff}',
-                '\u{800}',
-                '語',
-                '\u{d7ff}',
-                '\u{e000}',
-                '\u{ffff}',
-                '😀',
-                '\u{10ffff}',
-            ]),
-            _ => char::from(random.between(32, 126) as u8),
-        };
-        let mut bytes = [0; 4];
-        text.extend(character.encode_utf8(&mut bytes).as_bytes());
-    }
-    while text.len() > length && std::str::from_utf8(&text[..length]).is_err() {
-        text.insert(0, b'x');
-    }
-    text.truncate(length);
-    if !text.is_empty() && random.one_in(25) {
-        let at = random.below(text.len());
-        text[at] = random.pick(&[0x80, 0xbf, 0xc0, 0xc3, 0xe0, 0xed, 0xf0, 0xf4, 0xff]);
-    }
-    text
 }

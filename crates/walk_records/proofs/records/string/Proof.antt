@@ -2,7 +2,7 @@
 -- Assumes nothing.
 use mathlib.Core.Path.{refl}
 use borrow.Author.Needs.{needs}
-use Rattle.walk_records.proofs.Strings.{string-inside, string-room, string-closed, string-refused, string-text, string-not-text}
+use Rattle.walk_records.proofs.Strings.{string-inside, string-room, string-closed, string-refused, string-judged}
 use Rattle.walk_records.proofs.records.string.Statement.{statement}
 use Rattle.walk_records.proofs.records.string.Tie as tie
 
@@ -10,22 +10,18 @@ numbers-requires : tie.Need-numbers-requires
 numbers-requires c κs = (refl, search (needs, string-inside), search (needs, string-room))
 
 returns : tie.Need-returns
-returns c = search (needs, string-text)
+returns c = search (needs, string-closed)
 
 returns-2 : tie.Need-returns-2
-returns-2 c = search (needs, string-closed)
+returns-2 c = search (needs, string-refused)
 
 returns-3 : tie.Need-returns-3
-returns-3 c = search (needs, string-refused)
-
-returns-4 : tie.Need-returns-4
-returns-4 c = search (needs, string-not-text)
+returns-3 c = search (needs, string-judged)
 
 pub string-spec : {M : Type 1} → statement M
 string-spec =
     tie.close
     (tie.spec
     (λ c κs. search needs) (λ c. search needs) (λ c. search needs) (λ c. search needs) numbers-requires
-    (λ c κs. search needs) (λ c. search needs) (λ c. search needs) returns (λ c κs. search needs) (λ c. search needs)
-    (λ c. search needs) returns-2 (λ c. search needs) (λ c. search needs) returns-3 (λ c. search needs)
-    (λ c. search needs) returns-4)
+    (λ c κs. search needs) (λ c. search needs) (λ c. search needs) returns (λ c. search needs)
+    (λ c. search needs) returns-2 (λ c. search needs) (λ c. search needs) returns-3)
