@@ -15,7 +15,7 @@ import sys
 
 HERE = pathlib.Path(__file__).resolve().parent
 CRATES = HERE.parent / "crates"
-REQUESTS = ("W-203", "W-208", "W-209", "W-201")
+REQUESTS = ("W-203", "W-208", "W-209", "W-201", "W-202")
 FILES = ("text.txt", "base.txt", "conformance.txt", "document.txt", "circle.txt", *(f"{request}.txt" for request in REQUESTS))
 
 # The operations that `cases` runs, in the order of their numbers, from 1 on.

@@ -55,6 +55,20 @@ def runs():
     yield b"a" * 2000 + "é".encode()
 
 
+def eights():
+    """Each byte by itself; text of several eights in which few sequences end with one, cut off and broken at each of its bytes; and
+    ASCII on both sides of whole blocks after a longer sequence."""
+    for byte in range(256):
+        yield bytes([byte])
+    text = "語é😀x語".encode() * 3
+    for at in range(len(text)):
+        yield text[:at]
+        yield text[:at] + b"\xff" + text[at + 1 :]
+    for count in (7, 8, 9, 31, 32, 33, 39, 40, 41, 71, 72, 73):
+        for last in ("é".encode(), b"\x80"):
+            yield "é".encode() + b"a" * count + last
+
+
 def parts():
     """Parts of one message: between sequences, through them, and past its end."""
     message = "aé語😀z".encode() + b"\xff"
@@ -67,7 +81,7 @@ def parts():
 
 def cases():
     yield b"", 0, 0
-    for message in itertools.chain(sequences(), runs()):
+    for message in itertools.chain(sequences(), runs(), eights()):
         yield message, 0, len(message)
     yield from parts()
 

@@ -3,103 +3,34 @@
 use mathlib.Core.Path.{_≡_, refl, sym, _∙_, ap}
 use mathlib.Core.Bool.{Bool, true, false, _&&_, false≢true}
 use mathlib.Core.List.{List, [], _∷_}
-use Prim.Native.Nat.{ℕ, zero, suc, _+_, _-_, _≤_, _<_}
-use native.Mathlib.Nat.{add-zero, add-suc, suc-add}
+use Prim.Native.Nat.{ℕ, zero, suc, _+_, _*_, _-_, _/_, _%_, _^_, _≤_, _<_}
+use native.Mathlib.Nat.{add-zero, mod-eq-of-lt}
 use native.Mathlib.Numerals.{add-one}
 use native.Mathlib.Omega.{arith}
-use lib.ListN.{length, take, drop, getD, length-drop, drop-of-length-le}
-use lib.Seq.{drop-cons, drop-drop}
-use Rattle.rules.specs.Refusals.{if_then_else_}
+use borrow.Author.Tests.{le-leb}
+use lib.Bits.{bitAnd, and-block, and-high}
+use lib.ListN.{length, take, drop, getD, drop-of-length-le}
+use lib.Seq.{drop-cons}
+use Rattle.rules.specs.Bytes.{littleEndian, part, word}
 use Rattle.rules.specs.Text as Rules
-use Rattle.rules.specs.Text.{Range, holds, forms, Led, led, notALead, leads, Text, broken, follows, utf8, isText, isUtf8}
+use Rattle.rules.specs.Text.{forms, led, leads, Text, follows, utf8, isText, isUtf8}
 use Rattle.words.specs.Bits.{allBits}
 use Rattle.words.proofs.Bits.{part-none-above}
-use Rattle.rules.proofs.Tests.{both}
-use Rattle.text.specs.Sequences.{lieIn, sequenceLed, sequenceOf, Passes}
-use Rattle.text.proofs.Forms.{leads-form}
-
--- ---- a text goes on after the sequence at a place, or breaks where that starts
+use Rattle.words.proofs.Loads.{part-cons}
+use Rattle.text.specs.Sequences.{textFrom, Passes}
 
 -- Between sequences it does not matter where the last one started.
-begins : (text : List ℕ) (start at : ℕ) → follows text start at (led []) ≡ follows text at at (led [])
+pub begins : (text : List ℕ) (start at : ℕ) → follows text start at (led []) ≡ follows text at at (led [])
 unfolding follows
 begins [] start at = refl
 begins (n ∷ text) start at = refl
 
-follows-due :
-    (text : List ℕ) (due : List Range) (start at : ℕ) →
-    follows text start at (led due)
-    ≡ (if lieIn text due then follows (drop (length due) text) start (at + length due) (led []) else broken start)
-unfolding follows
-follows-due text [] start at = rw add-zero
-follows-due [] (r ∷ due) start at = refl
-follows-due (n ∷ text) (r ∷ due) start at = go (holds r n) (rw (add-suc, ← suc-add) (follows-due text due start (suc at)))
-  where
-    go : (b : Bool) →
-        follows text start (suc at) (led due)
-        ≡ (if lieIn text due then follows (drop (length due) text) start (at + suc (length due)) (led []) else broken start) →
-        (if b then follows text start (suc at) (led due) else broken start)
-        ≡ (if b && lieIn text due then follows (drop (length due) text) start (at + suc (length due)) (led []) else broken start)
-    go true later = later
-    go false later = refl
-
-due-fits : (text : List ℕ) (due : List Range) → lieIn text due ≡ true → length due ≤ length text
-due-fits text [] is = omega arith
-due-fits [] (r ∷ due) is = absurd (false≢true is)
-due-fits (n ∷ text) (r ∷ due) is =
-    omega (arith, due-fits text due (both (holds r n) (lieIn text due) is .1))
-
 -- Between sequences the next byte is a lead.
 next-lead :
     (text : List ℕ) (at : ℕ) → at < length text →
-    follows (drop at text) at at (led []) ≡ follows (drop (at + 1) text) at (at + 1) (leads forms (getD text at 0))
+    textFrom text at ≡ follows (drop (at + 1) text) at (at + 1) (leads forms (getD text at 0))
 unfolding follows
 next-lead text at inside = rw (add-one, drop-cons text at 0)
-
-led-passed :
-    (after : List ℕ) (l : Led) (start at n : ℕ) → suc n ≡ sequenceLed l after →
-    (n ≤ length after) × (follows after start at l ≡ follows (drop n after) start (at + n) (led []))
-led-passed after notALead start at n is = absurd (omega arith)
-led-passed after (led due) start at n is = go (lieIn after due) refl is
-  where
-    go : (b : Bool) → lieIn after due ≡ b → suc n ≡ (if b then suc (length due) else 0) →
-        (n ≤ length after) × (follows after start at (led due) ≡ follows (drop n after) start (at + n) (led []))
-    go true lie is =
-        let all : n ≡ length due = omega arith in
-        (omega (arith, due-fits after due lie), rw all (follows-due after due start at ∙ simp lie))
-    go false lie is = absurd (omega arith)
-
-led-wrong : (after : List ℕ) (l : Led) (start at : ℕ) → 0 ≡ sequenceLed l after → follows after start at l ≡ broken start
-unfolding follows
-led-wrong [] notALead start at is = refl
-led-wrong (n ∷ after) notALead start at is = refl
-led-wrong after (led due) start at is = follows-due after due start at ∙ go (lieIn after due) is
-  where
-    go : (b : Bool) → 0 ≡ (if b then suc (length due) else 0) →
-        (if b then follows (drop (length due) after) start (at + length due) (led []) else broken start) ≡ broken start
-    go true is = absurd (omega arith)
-    go false is = refl
-
-sequence-led :
-    (text : List ℕ) (at : ℕ) → at < length text →
-    sequenceOf (drop at text) ≡ sequenceLed (leads forms (getD text at 0)) (drop (at + 1) text)
-unfolding sequenceOf
-sequence-led text at inside = rw (add-one, drop-cons text at 0)
-
-pub sequence-passed :
-    {text : List ℕ} {from at count : ℕ} → Passes text from at → at < length text → count ≡ sequenceOf (drop at text) →
-    (count ≡ 0 → ⊥) → Passes text from (at + count)
-sequence-passed {text} {from} {at} {count} passed inside counted some =
-    let more : suc (count - 1) ≡ count = omega (arith, some) in
-    let here = more ∙ counted ∙ sequence-led text at inside in
-    let led-on = led-passed (drop (at + 1) text) (leads forms (getD text at 0)) at (at + 1) (count - 1) here in
-    let sum : at + 1 + (count - 1) ≡ at + count = omega arith in
-    record {
-      onward = omega arith;
-      within = omega (arith, length-drop (at + 1) text);
-      alike =
-          passed .alike ∙ next-lead text at inside ∙ led-on .1 ∙ rw (drop-drop, sum) (begins (drop (at + count) text) at (at + count));
-    }
 
 -- ---- runs of ASCII
 
@@ -115,7 +46,7 @@ pub byte-passed :
     {text : List ℕ} {from at : ℕ} → Passes text from at → at < length text → getD text at 0 < 0x80 →
     Passes text from (at + 1)
 byte-passed {text} {from} {at} p inside ascii =
-    let alone = leads-form 0 (getD text at 0) forms (omega arith) in
+    let alone : leads forms (getD text at 0) ≡ led [] = simp (le-leb 0 (getD text at 0) (omega arith), le-leb (getD text at 0) 0x7F (omega arith)) in
     record {
       onward = omega arith;
       within = omega arith;
@@ -139,19 +70,54 @@ module _
         let all : at + (end - at) ≡ end = omega arith in
         rw all at (first-passed (end - at) (omega arith))
 
+-- The highest bit of each of so many bytes;
+abbrev highest : (count : ℕ) → ℕ
+highest zero = 0
+highest (suc count) = highest count * 2 ^ 8 + 0x80
+
+low-byte : (byte : ℕ) → byte < 256 → bitAnd byte 0x80 ≡ 0 → byte < 0x80
+low-byte byte small none =
+    let high : byte / 128 % 2 * 128 ≡ 0 = sym (and-high byte 1 7) ∙ none in
+    let zeroth : byte / 128 % 2 ≡ byte / 128 = mod-eq-of-lt (omega arith) in
+    omega arith
+
+-- a word none of whose bytes has it is ASCII.
+pub word-passed :
+    (count : ℕ) {text : List ℕ} {at : ℕ} → ((i : ℕ) → getD text i 0 < 256) → at + count ≤ length text →
+    bitAnd (word text at count) (highest count) ≡ 0 → Passes text at (at + count)
+unfolding word littleEndian
+word-passed zero {text} {at} octets inside none = rw add-zero (nothing-passed text at (omega arith))
+word-passed (suc count) {text} {at} octets inside none =
+    let byte = getD text at 0 in
+    let later = word text (suc at) count in
+    let split : word text at (suc count) ≡ later * 2 ^ 8 + byte = ap littleEndian (part-cons text at count (omega arith)) ∙ omega arith in
+    let parts =
+    sym (and-block 8 later (highest count) byte 0x80 (octets at) (omega arith)) ∙ ap (λ (w : ℕ). bitAnd w (highest (suc count))) (sym split) ∙ none in
+    let here = byte-passed (nothing-passed text at (omega arith)) (omega arith) (low-byte byte (octets at) (omega arith)) in
+    let rest = word-passed count {text = text} {at = suc at} octets (omega arith) (omega arith) in
+    let sum : suc at + count ≡ at + suc count = omega arith in
+    rw sum at (both-passed (rw add-one at here) rest)
+
+-- Two runs, one after the other.
+pub both-ascii :
+    {text : List ℕ} {from middle middle′ next : ℕ} (first second : Bool) → (first ≡ true → Passes text from middle) →
+    (second ≡ true → Passes text middle′ next) → middle ≡ middle′ → first && second ≡ true → Passes text from next
+both-ascii true second p q meet test = both-passed (rw meet at (p refl)) (q test)
+both-ascii false second p q meet test = absurd (false≢true test)
+
 -- ---- the whole text
 
-pub text-ends : {bytes : List ℕ} {at : ℕ} → Passes bytes 0 at → length bytes ≤ at → Rules.text ≡ utf8 bytes
+pub ends : (text : List ℕ) (at : ℕ) → length text ≤ at → textFrom text at ≡ Rules.text
 unfolding follows
-text-ends {bytes} passed ended = sym (passed .alike ∙ rw (drop-of-length-le bytes ended))
+ends text at ended = rw (drop-of-length-le text ended)
 
-pub text-breaks :
-    {bytes : List ℕ} {at count : ℕ} → Passes bytes 0 at → at < length bytes → count ≡ sequenceOf (drop at bytes) → count ≡ 0 →
-    broken at ≡ utf8 bytes
-text-breaks {bytes} {at} passed inside counted none =
-    let here = sym none ∙ counted ∙ sequence-led bytes at inside in
-    sym (passed .alike ∙ next-lead bytes at inside ∙ led-wrong (drop (at + 1) bytes) (leads forms (getD bytes at 0)) at (at + 1) here)
+-- A text is judged from its start on, and is UTF-8 where it is text.
+pub judged-from : (bytes : List ℕ) {at : ℕ} {judged : Text} → Passes bytes 0 at → judged ≡ textFrom bytes at → judged ≡ utf8 bytes
+judged-from bytes passed is = is ∙ sym (passed .alike)
 
 pub is-text : (bytes : List ℕ) (judged : Text) → judged ≡ utf8 bytes → isText judged ≡ isUtf8 bytes
 unfolding isUtf8
 is-text bytes judged is = ap isText is
+
+pub are-text : (bytes : List ℕ) {at : ℕ} {judged : Bool} → Passes bytes 0 at → judged ≡ isText (textFrom bytes at) → judged ≡ isUtf8 bytes
+are-text bytes {at} passed is = is ∙ is-text bytes (textFrom bytes at) (sym (passed .alike))

@@ -1,2 +1,4 @@
 pub mod Answers
 pub mod Sequences
+pub mod Classes
+pub mod Machine

@@ -9,7 +9,7 @@ use std::collections::BTreeMap;
 use std::path::Path;
 
 /// The files that are run.
-pub const FILES: [&str; 9] = [
+pub const FILES: [&str; 10] = [
     "text.txt",
     "base.txt",
     "conformance.txt",
@@ -19,6 +19,7 @@ pub const FILES: [&str; 9] = [
     "W-208.txt",
     "W-209.txt",
     "W-201.txt",
+    "W-202.txt",
 ];
 
 /// What stands in a buffer before a call.

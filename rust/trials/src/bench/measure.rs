@@ -72,6 +72,16 @@ impl Times {
     }
 }
 
+/// A time that a person can read.
+pub fn time(nanoseconds: f64) -> String {
+    match nanoseconds {
+        below if below < 10.0 => format!("{below:.1} ns"),
+        below if below < 1e3 => format!("{below:.0} ns"),
+        below if below < 1e5 => format!("{:.2} µs", below / 1e3),
+        more => format!("{:.1} µs", more / 1e3),
+    }
+}
+
 /// Room for both lists and the message. It is reused and not cleared between calls.
 struct Buffers {
     values: Vec<u64>,
@@ -84,16 +94,22 @@ pub fn times(workload: &Workload, operation: Operation) -> Times {
     let mut buffers = Buffers { values: vec![0; 65_536], objects: vec![0; 65_536], out: vec![0; 65_536] };
     let table = workload.lists.table();
     let schema = table.schema().expect("a sound table");
-    let mut best = [f64::INFINITY; 4];
-    let mut counts = [0; 4];
+    let [library, reference, prepared, copy] = fastest(|contender| match contender {
+        0 => by_face(&Library, workload, operation, &mut buffers),
+        1 => by_face(&Reference, workload, operation, &mut buffers),
+        2 => prepared(&schema, workload, operation, &mut buffers),
+        _ => copy(workload, &mut buffers),
+    });
+    Times { library, reference, prepared, copy }
+}
+
+/// The fastest turn of each of so many contenders, one after the other: nanoseconds a call.
+pub fn fastest<const CONTENDERS: usize>(mut run: impl FnMut(usize)) -> [f64; CONTENDERS] {
+    let mut best = [f64::INFINITY; CONTENDERS];
+    let mut counts = [0; CONTENDERS];
     for round in 0..=ROUNDS {
-        for contender in 0..4 {
-            let mut run = || match contender {
-                0 => by_face(&Library, workload, operation, &mut buffers),
-                1 => by_face(&Reference, workload, operation, &mut buffers),
-                2 => prepared(&schema, workload, operation, &mut buffers),
-                _ => copy(workload, &mut buffers),
-            };
+        for contender in 0..CONTENDERS {
+            let mut run = || run(contender);
             if round == 0 {
                 counts[contender] = calibrate(&mut run);
             } else {
@@ -101,8 +117,7 @@ pub fn times(workload: &Workload, operation: Operation) -> Times {
             }
         }
     }
-    let [library, reference, prepared, copy] = best;
-    Times { library, reference, prepared, copy }
+    best
 }
 
 /// How many calls fill a turn.

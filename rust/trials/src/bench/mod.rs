@@ -3,4 +3,5 @@
 pub mod measure;
 pub mod plot;
 pub mod report;
+pub mod texts;
 pub mod workloads;

@@ -1,6 +1,6 @@
 //! The benchmark's table, in Markdown.
 
-use super::measure::{Operation, Times};
+use super::measure::{Operation, Times, time};
 
 /// A workload measured: its name and size, and the times of each operation.
 pub struct Measured {
@@ -34,15 +34,6 @@ impl Growth {
         let above: f64 = points.iter().map(|point| (point.0 - x) * (point.1 - y)).sum();
         let below: f64 = points.iter().map(|point| (point.0 - x).powi(2)).sum();
         above / below
-    }
-}
-
-/// A time that a person can read.
-fn time(nanoseconds: f64) -> String {
-    match nanoseconds {
-        below if below < 1e3 => format!("{below:.0} ns"),
-        below if below < 1e5 => format!("{:.2} µs", below / 1e3),
-        more => format!("{:.1} µs", more / 1e3),
     }
 }
 

@@ -45,6 +45,10 @@ impl Workload {
 /// The most bytes that the large workloads take.
 const LARGE: usize = 60_000;
 
+/// Texts that are repeated.
+pub const ASCII: &str = "The quick brown fox jumps over the lazy dog. ";
+pub const MIXED: &str = "naïve café, 日本語のテキスト, emoji 😀🚀; plain words too. ";
+
 /// The workloads that the targets are about.
 pub fn all() -> Vec<Workload> {
     vec![
@@ -54,8 +58,8 @@ pub fn all() -> Vec<Workload> {
         filled_structs("structs with bool and fill", LARGE),
         numbers("bytes", [2, 1, 0, 0], (0..LARGE).map(|i| i as u64 % 251)),
         numbers("bools", [1, 0, 0, 0], (0..LARGE).map(|i| i as u64 / 3 % 2)),
-        text("ASCII text", "The quick brown fox jumps over the lazy dog. "),
-        text("mixed text", "naïve café, 日本語のテキスト, emoji 😀🚀; plain words too. "),
+        text("ASCII text", ASCII),
+        text("mixed text", MIXED),
         boxes(),
         unions(),
         unknown_envelopes(),

@@ -8,6 +8,7 @@
 use ratlinery_trials::bench::measure::{Operation, times};
 use ratlinery_trials::bench::plot;
 use ratlinery_trials::bench::report::{Growth, Measured, print_growth, print_workloads};
+use ratlinery_trials::bench::texts::{judged, print_texts};
 use ratlinery_trials::bench::workloads::{Workload, all, growing, tables};
 use std::process::ExitCode;
 
@@ -23,6 +24,7 @@ fn main() -> ExitCode {
     let tables: Vec<Measured> =
         tables().iter().map(|workload| measured(workload, &[Operation::Layout])).collect();
     let mut missed = print_workloads(workloads.iter().chain(&tables));
+    missed.extend(print_texts(&judged()));
     let sized = |workload: &Workload| measured(workload, &Operation::OF_MESSAGES[..3]);
     let growths: Vec<Growth> = growing()
         .into_iter()
@@ -32,7 +34,7 @@ fn main() -> ExitCode {
 
     println!(
         "\nratio: Ratlinery / reference; targets: check and read 1.5, write 2, growth no more than linear, \
-         layout under a millisecond."
+         layout under a millisecond, long texts 1.1 times from_utf8."
     );
     println!("The fastest of 15 turns counts; buffers are reused and not cleared.");
     match &missed[..] {
