@@ -1,7 +1,7 @@
 /* Ratlinery: a codec for FIDL messages with 8-byte envelopes, under a type table that is handed in at run time.
  *
  * Every function is total: it returns for any numbers, lists and bytes, valid or not, and it allocates nothing. Each
- * returns a number, 0 for accepted or 1 to 26 for a refusal, and stores what it answers into `answer`:
+ * returns a number, 0 for accepted or that of a refusal, and stores what it answers into `answer`:
  *
  *   answer[0]     the place of the refusal, or 0
  *   answer[1..]   the function's results, as listed there; all 0 on a refusal
@@ -9,9 +9,10 @@
  * Words of `answer` that it has no room for are not stored (an `answer` of length 0 is allowed), and no word past the
  * results is touched.
  *
- * Type table. Two lists of 32-bit numbers: `rows`, four numbers a row (kind, a, b, c), and `members`, two a member
- * (ordinal, row). Rows and members count from 0; there are 1 to 256 rows and 0 to 1,024 members. Every call judges the
- * table anew. To judge a table alone, ask for the layout of row 0.
+ * Type table. Three lists: `rows`, four 32-bit numbers a row (kind, a, b, c); `members`, two a member (ordinal, row); and
+ * `entries`, 64-bit patterns that strict enums and strict bits name. Each counts from 0; there are 1 to 256 rows, 0 to
+ * 1,024 members and 0 to 1,024 entries. Every call judges the table anew. To judge a table alone, ask for the layout of
+ * row 0. A struct ratlinery_types, at the end, takes the three lists together.
  *
  *   kind                             a               b                     c
  *    1  bool                         0               0                     0
@@ -24,18 +25,22 @@
  *    8  box                          struct row      0                     0
  *    9  table                        first member    members               0
  *   10  union                        first member    members, 1 or more    1 if optional, plus 2 if flexible
+ *   11  strict enum                  1, 2, 4, 8      first entry           entries, 1 or more
+ *   12  strict bits                  1, 2, 4, 8      the mask's entry      1
  *
  * A table is sound if every row is as above and all that it names exists; an array's element and a struct's members are
  * rows with smaller numbers than its own; a struct's ordinals are 1, 2, 3 and on, a table's or union's are at least 1 and
- * rise; no in-line size is over 65,528. Members that no row names are not judged. A root is a row of kind 7, 9 or 10.
+ * rise; a strict enum's entries rise, as unsigned numbers, and these and a mask lie within their row's bytes; no in-line
+ * size is over 65,528. Members and entries that no row names are not judged; rows may share them. A root is a row of kind
+ * 7, 9 or 10. Enums and bits of kind 2 are flexible: they take any pattern.
  *
  * Message. At most 65,536 bytes, and a number of handles, at most 64; the handles themselves are never seen.
  *
- * Value list. 64-bit numbers in the order of the message. Struct and array: their parts in turn. Bool and number: the
- * bits. Handle: 1 or 0. Vector, string: 0 absent, else count plus 1 and the elements or bytes. Box: 0, or 1 and the
- * struct. Table: the highest present ordinal (0 if none), then for each ordinal up to it 0, or 1 and its content. Union:
- * 0, or ordinal and content. Content of an ordinal that the table's or union's row does not list: byte number (0 for
- * content in line), handle number (at most one for four bytes of content), then the 4-byte word or all 8-byte words.
+ * Value list. 64-bit numbers in the order of the message. Struct and array: their parts in turn. Bool, number, enum and
+ * bits: the bits. Handle: 1 or 0. Vector, string: 0 absent, else count plus 1 and the elements or bytes. Box: 0, or 1
+ * and the struct. Table: the highest present ordinal (0 if none), then for each ordinal up to it 0, or 1 and its content.
+ * Union: 0, or ordinal and content. Content of an ordinal that the table's or union's row does not list: byte number (0
+ * for content in line), handle number (at most one for four bytes of content), then the 4-byte word or all 8-byte words.
  *
  * Object list. Four 32-bit numbers an object, in the order of the message: kind, row, offset, length without the fill
  * after it. Kinds: 1 the root, 2 a vector's or string's content (row of that), 3 a boxed struct, 4 a table's envelopes
@@ -93,6 +98,7 @@ enum {
     RATLINERY_EPITAPH_TRANSACTION = 25,   /* an epitaph has a transaction number | 0 */
     RATLINERY_NOT_A_VALUE = 26,           /* the value list is no value of the root | index */
     RATLINERY_BAD_HANDLE_NUMBER = 28,     /* an envelope's handle number is wrong | envelope */
+    RATLINERY_UNKNOWN_VALUE = 29,         /* no entry of a strict enum, or a bit outside a mask | field's first byte */
     RATLINERY_IMPOSSIBLE_HANDLES = 35     /* unknown content claims more handles than it has room for | envelope */
 };
 
@@ -100,13 +106,15 @@ enum {
  * answer: place, size in bytes, alignment in bytes.
  * Refusals: 1; 2 at `row` if there is no such row. */
 uint32_t ratlinery_layout(const uint32_t *rows, size_t rows_len, const uint32_t *members, size_t members_len,
-                          uint32_t row, uint64_t *answer, size_t answer_len);
+                          const uint64_t *entries, size_t entries_len, uint32_t row,
+                          uint64_t *answer, size_t answer_len);
 
 /* Is a message, with its number of handles, one of the root's type? Any 64-bit number of handles may be asked about.
  * answer: place.
- * Refusals: 1, 2, 3, 4, in this order; 5 to 19, 28, 35; 20, 21. */
+ * Refusals: 1, 2, 3, 4, in this order; 5 to 19, 28, 29, 35; 20, 21. */
 uint32_t ratlinery_check(const uint32_t *rows, size_t rows_len, const uint32_t *members, size_t members_len,
-                         uint32_t root, const uint8_t *message, size_t message_len, uint64_t handles,
+                         const uint64_t *entries, size_t entries_len, uint32_t root,
+                         const uint8_t *message, size_t message_len, uint64_t handles,
                          uint64_t *answer, size_t answer_len);
 
 /* The value list and the object list of a message, from the start of `values` and `objects` on.
@@ -114,7 +122,8 @@ uint32_t ratlinery_check(const uint32_t *rows, size_t rows_len, const uint32_t *
  * Refusals: those of ratlinery_check; then 22 with the numbers needed in objects, then 22 with those needed in values.
  * Together the two lists have at most as many numbers as the message has bytes, and four more. */
 uint32_t ratlinery_read(const uint32_t *rows, size_t rows_len, const uint32_t *members, size_t members_len,
-                        uint32_t root, const uint8_t *message, size_t message_len, uint64_t handles,
+                        const uint64_t *entries, size_t entries_len, uint32_t root,
+                        const uint8_t *message, size_t message_len, uint64_t handles,
                         uint64_t *values, size_t values_len, uint32_t *objects, size_t objects_len,
                         uint64_t *answer, size_t answer_len);
 
@@ -122,14 +131,16 @@ uint32_t ratlinery_read(const uint32_t *rows, size_t rows_len, const uint32_t *m
  * answer: place, numbers given in values.
  * Refusals: those of ratlinery_check; then 22 with the numbers needed. */
 uint32_t ratlinery_read_values(const uint32_t *rows, size_t rows_len, const uint32_t *members, size_t members_len,
-                               uint32_t root, const uint8_t *message, size_t message_len, uint64_t handles,
+                               const uint64_t *entries, size_t entries_len, uint32_t root,
+                               const uint8_t *message, size_t message_len, uint64_t handles,
                                uint64_t *values, size_t values_len, uint64_t *answer, size_t answer_len);
 
 /* The object list alone.
  * answer: place, numbers given in objects (four an object).
  * Refusals: those of ratlinery_check; then 22 with the numbers needed. */
 uint32_t ratlinery_read_objects(const uint32_t *rows, size_t rows_len, const uint32_t *members, size_t members_len,
-                                uint32_t root, const uint8_t *message, size_t message_len, uint64_t handles,
+                                const uint64_t *entries, size_t entries_len, uint32_t root,
+                                const uint8_t *message, size_t message_len, uint64_t handles,
                                 uint32_t *objects, size_t objects_len, uint64_t *answer, size_t answer_len);
 
 /* Writes a value list as a message, from the start of `out` on. What ratlinery_read_values gave of a message is written
@@ -138,7 +149,8 @@ uint32_t ratlinery_read_objects(const uint32_t *rows, size_t rows_len, const uin
  * Refusals: 1, 2; whichever of 26, 5, 3, 4 is met first, at the index of the number judged (26 at the list's length
  * where it ends early); 26 at the first number left; 22 with the bytes needed. */
 uint32_t ratlinery_write(const uint32_t *rows, size_t rows_len, const uint32_t *members, size_t members_len,
-                         uint32_t root, const uint64_t *values, size_t values_len, uint8_t *out, size_t out_len,
+                         const uint64_t *entries, size_t entries_len, uint32_t root,
+                         const uint64_t *values, size_t values_len, uint8_t *out, size_t out_len,
                          uint64_t *answer, size_t answer_len);
 
 /* The transactional header at the start of a message. The body is the part of the message that its start and its length
@@ -167,6 +179,64 @@ uint32_t ratlinery_epitaph_write(uint8_t flag0, uint8_t flag1, uint8_t flag2, in
  * answer: place.
  * Refusals: 13, whose place counts from the text's start. */
 uint32_t ratlinery_utf8(const uint8_t *text, size_t text_len, uint64_t *answer, size_t answer_len);
+
+/* A type table's three lists together. For each function ratlinery_NAME that takes the lists, ratlinery_types_NAME takes a
+ * pointer to this in their place, and is the same else. */
+struct ratlinery_types {
+    const uint32_t *rows;
+    size_t rows_len;
+    const uint32_t *members;
+    size_t members_len;
+    const uint64_t *entries;
+    size_t entries_len;
+};
+
+/* As the functions take them. */
+#define RATLINERY_LISTS                                                                                                \
+    types->rows, types->rows_len, types->members, types->members_len, types->entries, types->entries_len
+
+static inline uint32_t ratlinery_types_layout(const struct ratlinery_types *types, uint32_t row, uint64_t *answer,
+                                              size_t answer_len) {
+    return ratlinery_layout(RATLINERY_LISTS, row, answer, answer_len);
+}
+
+static inline uint32_t ratlinery_types_check(const struct ratlinery_types *types, uint32_t root,
+                                             const uint8_t *message, size_t message_len, uint64_t handles,
+                                             uint64_t *answer, size_t answer_len) {
+    return ratlinery_check(RATLINERY_LISTS, root, message, message_len, handles, answer, answer_len);
+}
+
+static inline uint32_t ratlinery_types_read(const struct ratlinery_types *types, uint32_t root, const uint8_t *message,
+                                            size_t message_len, uint64_t handles, uint64_t *values, size_t values_len,
+                                            uint32_t *objects, size_t objects_len, uint64_t *answer,
+                                            size_t answer_len) {
+    return ratlinery_read(RATLINERY_LISTS, root, message, message_len, handles, values, values_len, objects,
+                          objects_len, answer, answer_len);
+}
+
+static inline uint32_t ratlinery_types_read_values(const struct ratlinery_types *types, uint32_t root,
+                                                   const uint8_t *message, size_t message_len, uint64_t handles,
+                                                   uint64_t *values, size_t values_len, uint64_t *answer,
+                                                   size_t answer_len) {
+    return ratlinery_read_values(RATLINERY_LISTS, root, message, message_len, handles, values, values_len, answer,
+                                 answer_len);
+}
+
+static inline uint32_t ratlinery_types_read_objects(const struct ratlinery_types *types, uint32_t root,
+                                                    const uint8_t *message, size_t message_len, uint64_t handles,
+                                                    uint32_t *objects, size_t objects_len, uint64_t *answer,
+                                                    size_t answer_len) {
+    return ratlinery_read_objects(RATLINERY_LISTS, root, message, message_len, handles, objects, objects_len, answer,
+                                  answer_len);
+}
+
+static inline uint32_t ratlinery_types_write(const struct ratlinery_types *types, uint32_t root, const uint64_t *values,
+                                             size_t values_len, uint8_t *out, size_t out_len, uint64_t *answer,
+                                             size_t answer_len) {
+    return ratlinery_write(RATLINERY_LISTS, root, values, values_len, out, out_len, answer, answer_len);
+}
+
+#undef RATLINERY_LISTS
 
 #ifdef __cplusplus
 }

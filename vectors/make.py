@@ -15,7 +15,7 @@ import sys
 
 HERE = pathlib.Path(__file__).resolve().parent
 CRATES = HERE.parent / "crates"
-REQUESTS = ("W-203", "W-208", "W-209", "W-201", "W-202")
+REQUESTS = ("W-203", "W-208", "W-209", "W-201", "W-202", "W-206")
 FILES = ("text.txt", "base.txt", "conformance.txt", "document.txt", "circle.txt", *(f"{request}.txt" for request in REQUESTS))
 
 # The operations that `cases` runs, in the order of their numbers, from 1 on.
@@ -24,11 +24,11 @@ RUN = ("utf8", "sound", "layout", "header_read", "header_write", "check", "read"
 # The fields of each operation in the vector files: its inputs, and its answer.
 FIELDS = {
     "utf8": ("bytes number number", "number number"),
-    "sound": ("list list", "number number"),
-    "layout": ("list list number", "number number number number"),
-    "check": ("list list number bytes number", "number number"),
-    "read": ("list list number bytes number room room", "number number list list"),
-    "write": ("list list number list room", "number number number number bytes"),
+    "sound": ("list list list", "number number"),
+    "layout": ("list list list number", "number number number number"),
+    "check": ("list list list number bytes number", "number number"),
+    "read": ("list list list number bytes number room room", "number number list list"),
+    "write": ("list list list number list room", "number number number number bytes"),
     "header_read": ("bytes", "number number number flags number number number signed"),
     "header_write": ("number flags number room", "number number bytes"),
     "epitaph_write": ("flags signed room", "number number bytes"),
@@ -36,7 +36,7 @@ FIELDS = {
 
 # The operations whose messages `roundtrip` sends, and the inputs that a message is.
 SENT = ("check", "read")
-MESSAGE = "list list number bytes number"
+MESSAGE = "list list list number bytes number"
 
 
 def listed(numbers):

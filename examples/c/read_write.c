@@ -23,6 +23,7 @@ static const uint32_t members[] = {
     1, 1, 2, 1,       /* of the struct: ordinals 1 and 2, both row 1 */
     1, 0, 2, 3, 3, 2, /* of the table: ordinal 1 is row 0, 2 is row 3, 3 is row 2 */
 };
+static const struct ratlinery_types types = {rows, LENGTH(rows), members, LENGTH(members), NULL, 0};
 static const uint32_t root = 4;
 
 int main(void) {
@@ -35,8 +36,8 @@ int main(void) {
     uint64_t values[64], answer[3];
     uint32_t objects[64];
 
-    uint32_t number = ratlinery_read(rows, LENGTH(rows), members, LENGTH(members), root, message, sizeof message, 0,
-                                     values, LENGTH(values), objects, LENGTH(objects), answer, LENGTH(answer));
+    uint32_t number = ratlinery_types_read(&types, root, message, sizeof message, 0, values, LENGTH(values), objects,
+                                           LENGTH(objects), answer, LENGTH(answer));
     if (number != RATLINERY_ACCEPTED) {
         printf("refused with %" PRIu32 " at %" PRIu64 "\n", number, answer[0]);
         return 1;
@@ -50,15 +51,15 @@ int main(void) {
 
     /* What was read is written as it was. */
     uint8_t written[64];
-    number = ratlinery_write(rows, LENGTH(rows), members, LENGTH(members), root, values, (size_t)value_count, written,
-                             sizeof written, answer, LENGTH(answer));
+    number = ratlinery_types_write(&types, root, values, (size_t)value_count, written, sizeof written, answer,
+                                   LENGTH(answer));
     if (number != RATLINERY_ACCEPTED || answer[1] != sizeof message || memcmp(written, message, sizeof message) != 0)
         return 1;
     printf("written back, %" PRIu64 " bytes and %" PRIu64 " handles\n", answer[1], answer[2]);
 
     /* A byte of fill that is not zero is refused: 7, at that byte. */
     message[17] = 1;
-    number = ratlinery_check(rows, LENGTH(rows), members, LENGTH(members), root, message, sizeof message, 0, answer, 1);
+    number = ratlinery_types_check(&types, root, message, sizeof message, 0, answer, 1);
     printf("damaged: refused with %" PRIu32 " at byte %" PRIu64 "\n", number, answer[0]);
     return number == RATLINERY_FILL_NOT_ZERO && answer[0] == 17 ? 0 : 1;
 }

@@ -1,5 +1,5 @@
-// Receives a message with its header: reads the header, checks the body and reads its values into a vector. Then judges a
-// name by itself, and receives an epitaph, whose header is read with its status.
+// Receives a message with its header: reads the header, checks the body and reads its values into a vector. Then meets a
+// button that does not exist, judges a name by itself, and receives an epitaph, whose header is read with its status.
 //
 //   rt staticlib ratlinery
 //   c++ -Iinclude examples/cpp/receive.cpp target/staticlib/libratlinery.a -o target/receive && target/receive
@@ -12,10 +12,13 @@
 #include <string>
 #include <vector>
 
-// A struct of a string of at most 16 bytes and a handle.
-const std::vector<std::uint32_t> rows = {6, 0, 16, 0, 3, 0, 0, 0, 7, 0, 2, 0};
-const std::vector<std::uint32_t> members = {1, 0, 2, 1};
-const std::uint32_t root = 2;
+// A struct of a string of at most 16 bytes, a handle, and a strict enum of one byte: a button, 1 to 14.
+const std::vector<std::uint32_t> rows = {6, 0, 16, 0, 3, 0, 0, 0, 11, 1, 0, 14, 7, 0, 3, 0};
+const std::vector<std::uint32_t> members = {1, 0, 2, 1, 3, 2};
+const std::vector<std::uint64_t> entries = {1, 2, 3, 4, 5, 6, 7, 8, 9, 10, 11, 12, 13, 14};
+const ratlinery_types types = {rows.data(),    rows.size(),    members.data(),
+                               members.size(), entries.data(), entries.size()};
+const std::uint32_t root = 3;
 
 // A refusal as an exception: its number, and the place that was judged.
 struct Refused : std::runtime_error {
@@ -27,9 +30,8 @@ struct Refused : std::runtime_error {
 std::vector<std::uint64_t> read_values(const std::uint8_t *body, std::size_t length, std::uint64_t handles) {
     std::vector<std::uint64_t> values(length);
     std::array<std::uint64_t, 2> answer;
-    std::uint32_t number =
-        ratlinery_read_values(rows.data(), rows.size(), members.data(), members.size(), root, body, length, handles,
-                              values.data(), values.size(), answer.data(), answer.size());
+    std::uint32_t number = ratlinery_types_read_values(&types, root, body, length, handles, values.data(),
+                                                       values.size(), answer.data(), answer.size());
     if (number != RATLINERY_ACCEPTED)
         throw Refused(number, answer[0]);
     values.resize(answer[1]);
@@ -46,11 +48,11 @@ int main() {
     std::array<std::uint64_t, 7> answer;
     ratlinery_header_write(7, 2, 0, 0, 0x1234, message.data(), message.size(), answer.data(), answer.size());
 
-    // The body: the string "pad", and a handle that is present.
-    std::vector<std::uint64_t> values = {4, 'p', 'a', 'd', 1};
+    // The body: the string "pad", a handle that is present, and button 3.
+    std::vector<std::uint64_t> values = {4, 'p', 'a', 'd', 1, 3};
     std::vector<std::uint8_t> body(64);
-    if (ratlinery_write(rows.data(), rows.size(), members.data(), members.size(), root, values.data(), values.size(),
-                        body.data(), body.size(), answer.data(), answer.size()) != RATLINERY_ACCEPTED)
+    if (ratlinery_types_write(&types, root, values.data(), values.size(), body.data(), body.size(), answer.data(),
+                              answer.size()) != RATLINERY_ACCEPTED)
         return 1;
     body.resize(answer[1]);
     const std::uint64_t handles = answer[2];
@@ -69,6 +71,15 @@ int main() {
         return 1;
     } catch (const Refused &refused) {
         std::cout << "without its handle: " << refused.what() << "\n";
+    }
+
+    // There is no button 19: 29, at the enum's byte in the body.
+    body[20] = 19;
+    try {
+        read_values(body.data(), body.size(), handles);
+        return 1;
+    } catch (const Refused &refused) {
+        std::cout << "button 19: " << refused.what() << "\n";
     }
 
     // A name that is cut off in a character is refused: 13, at that character's first byte, here of the name by itself.

@@ -12,7 +12,7 @@ const MESSAGE_ROOM: usize = 4096;
 const LIST_ROOM: usize = 4096;
 
 // More than a header or the message of any case that is written.
-const OUTPUT_ROOM: usize = 1024;
+const OUTPUT_ROOM: usize = 2048;
 
 // More than the value list or the object list of any case.
 const NUMBERS_ROOM: usize = 256;
@@ -154,16 +154,18 @@ fn utf8(case: &[u64]) -> bool {
     }
 }
 
-// The row list and the member list; number and place.
+// The row list, the member list and the entries; number and place.
 fn sound(case: &[u64]) -> bool {
     let mut rows = [0u32; LIST_ROOM];
     let mut members = [0u32; LIST_ROOM];
     let t = stream::put_table(case, &mut rows, &mut members);
+    let entries = stream::list(case, t.entries);
     let mut sizes = [0u32; 256];
     let mut alignments = [0u32; 256];
     let verdict = layout::prepare(
         &rows[..t.rows],
         &members[..t.members],
+        entries,
         &mut sizes,
         &mut alignments,
     );
@@ -177,14 +179,15 @@ fn sound(case: &[u64]) -> bool {
     }
 }
 
-// The row list, the member list and the row; number, place, size and alignment.
+// The three lists of a type table and the row; number, place, size and alignment.
 fn layout_of(case: &[u64]) -> bool {
     let mut rows = [0u32; LIST_ROOM];
     let mut members = [0u32; LIST_ROOM];
     let t = stream::put_table(case, &mut rows, &mut members);
+    let entries = stream::list(case, t.entries);
     let row = (words::value_at(case, t.next) % 4294967296) as u32;
     let answer = stream::rest(case, t.next + 1);
-    match layout::layout_of(&rows[..t.rows], &members[..t.members], row) {
+    match layout::layout_of(&rows[..t.rows], &members[..t.members], entries, row) {
         layout::LayoutAnswer::Laid(l) => stream::same(
             answer,
             &[0, 0, l.size as u64, l.alignment as u64],
@@ -196,11 +199,12 @@ fn layout_of(case: &[u64]) -> bool {
     }
 }
 
-// The row list, the member list, the root, the message and the handle count; number and place.
+// The three lists of a type table, the root, the message and the handle count; number and place.
 fn check(case: &[u64]) -> bool {
     let mut rows = [0u32; LIST_ROOM];
     let mut members = [0u32; LIST_ROOM];
     let t = stream::put_table(case, &mut rows, &mut members);
+    let entries = stream::list(case, t.entries);
     let root = (words::value_at(case, t.next) % 4294967296) as u32;
     let numbers = stream::list(case, t.next + 1);
     let mut message = message_room();
@@ -211,6 +215,7 @@ fn check(case: &[u64]) -> bool {
     match reader::check(
         &rows[..t.rows],
         &members[..t.members],
+        entries,
         root,
         &message[..count],
         handles,
@@ -228,6 +233,7 @@ fn read(case: &[u64]) -> bool {
     let mut rows = [0u32; LIST_ROOM];
     let mut members = [0u32; LIST_ROOM];
     let t = stream::put_table(case, &mut rows, &mut members);
+    let entries = stream::list(case, t.entries);
     let root = (words::value_at(case, t.next) % 4294967296) as u32;
     let numbers = stream::list(case, t.next + 1);
     let mut message = message_room();
@@ -235,22 +241,28 @@ fn read(case: &[u64]) -> bool {
     let next = t.next + 2 + numbers.len();
     let handles = words::value_at(case, next);
     let rest = stream::rest(case, next + 1);
-    read_both(
+    read_all(
         &rows[..t.rows],
         &members[..t.members],
+        entries,
         root,
         &message[..count],
         handles,
         rest,
     )
-        & read_each(
-            &rows[..t.rows],
-            &members[..t.members],
-            root,
-            &message[..count],
-            handles,
-            rest,
-        )
+}
+
+fn read_all(
+    rows: &[u32],
+    members: &[u32],
+    entries: &[u64],
+    root: u32,
+    message: &[u8],
+    handles: u64,
+    rest: &[u64],
+) -> bool {
+    read_both(rows, members, entries, root, message, handles, rest)
+        & read_each(rows, members, entries, root, message, handles, rest)
 }
 
 // Both lists at once. They are lent full of ones: past what was given, and on a refusal everywhere, those must still be
@@ -258,6 +270,7 @@ fn read(case: &[u64]) -> bool {
 fn read_both(
     rows: &[u32],
     members: &[u32],
+    entries: &[u64],
     root: u32,
     message: &[u8],
     handles: u64,
@@ -273,6 +286,7 @@ fn read_both(
     let right = match reader::read(
         rows,
         members,
+        entries,
         root,
         message,
         handles,
@@ -294,6 +308,7 @@ fn read_both(
 fn read_each(
     rows: &[u32],
     members: &[u32],
+    entries: &[u64],
     root: u32,
     message: &[u8],
     handles: u64,
@@ -312,6 +327,7 @@ fn read_each(
     let of_values = reader::read_values(
         rows,
         members,
+        entries,
         root,
         message,
         handles,
@@ -320,6 +336,7 @@ fn read_each(
     let of_objects = reader::read_objects(
         rows,
         members,
+        entries,
         root,
         message,
         handles,
@@ -505,12 +522,13 @@ fn wrote(output: &[u8; OUTPUT_ROOM], bytes: &[u64], count: usize) -> bool {
     right
 }
 
-// The row list, the member list, the root, the value list and the room; number, place, byte and handle counts, and the bytes
+// The three lists of a type table, the root, the value list and the room; number, place, byte and handle counts, and the bytes
 // that were written. The output is lent full of ones, as for a header.
 fn write(case: &[u64]) -> bool {
     let mut rows = [0u32; LIST_ROOM];
     let mut members = [0u32; LIST_ROOM];
     let t = stream::put_table(case, &mut rows, &mut members);
+    let entries = stream::list(case, t.entries);
     let root = (words::value_at(case, t.next) % 4294967296) as u32;
     let values = stream::list(case, t.next + 1);
     let next = t.next + 2 + values.len();
@@ -521,6 +539,7 @@ fn write(case: &[u64]) -> bool {
     match writer::write(
         &rows[..t.rows],
         &members[..t.members],
+        entries,
         root,
         values,
         &mut output[..room],

@@ -34,7 +34,17 @@ fn main() {
     words::store64(&mut message, 256, 0);
     let mut values = [0u64; 64];
     let mut objects = [0u32; 256];
-    match reader::read(&rows, &members, 255, &message, 0, &mut values, &mut objects) {
+    let no_entries = [0u64; 0];
+    match reader::read(
+        &rows,
+        &members,
+        &no_entries,
+        255,
+        &message,
+        0,
+        &mut values,
+        &mut objects,
+    ) {
         reader::Reading::Accepted(n) => {
             io::write_all(1, b"values=");
             io::print_decimal(1, n.values as u64);

@@ -81,21 +81,21 @@ past-stored (x ∷ list) lent at count h = past-stored list (set lent at x) (suc
 pub demand1 : Demand1
 unfolding HeaderRules.body HeaderRules.status listing
 demand1 = record {
-  check = λ {rows} {members} {message} {root} {handles} r p. refuses-same _ _ (p .answer);
-  readValues = λ {rows} {members} {message} {values} {values′} {root} {handles} r p.
-      let read = Rules.readValues (Doing.message (typeTable rows members) message handles) root (length values) in
+  check = λ {rows} {members} {entries} {message} {root} {handles} r p. refuses-same _ _ (p .answer);
+  readValues = λ {rows} {members} {entries} {message} {values} {values′} {root} {handles} r p.
+      let read = Rules.readValues (Doing.message (typeTable rows members entries) message handles) root (length values) in
       (refuses-told (givenOf r) read length (p .answer), keeps (givenOf r) read values values′ (p .answer) (p .list));
-  readObjects = λ {rows} {members} {message} {objects} {objects′} {root} {handles} r p.
-      let read = Rules.readObjects (Doing.message (typeTable rows members) message handles) root (length objects) in
+  readObjects = λ {rows} {members} {entries} {message} {objects} {objects′} {root} {handles} r p.
+      let read = Rules.readObjects (Doing.message (typeTable rows members entries) message handles) root (length objects) in
       (refuses-told (givenOf r) read length (p .answer), keeps (givenOf r) read objects objects′ (p .answer) (p .list));
-  read = λ {rows} {members} {message} {values} {values′} {objects} {objects′} {root} {handles} r p.
-      let read = Rules.read (Doing.message (typeTable rows members) message handles) root (length values) (length objects) in (
+  read = λ {rows} {members} {entries} {message} {values} {values′} {objects} {objects′} {root} {handles} r p.
+      let read = Rules.read (Doing.message (typeTable rows members entries) message handles) root (length values) (length objects) in (
         refuses-told (readingOf r) read (λ lists. record { values = length (lists .values); objects = length (lists .objects) }) (p .answer),
         keeps (andThen (readingOf r) (λ n. accepted (n .values))) (valuesIn read) values values′ (rw (p .answer) (value-count read)) (p .values-list),
         keeps (andThen (readingOf r) (λ n. accepted (n .objects))) (objectsIn read) objects objects′ (rw (p .answer) (object-count read)) (p .objects-list),
       );
-  write = λ {rows} {members} {values} {out} {out′} {root} r p.
-      let write = Rules.write (typeTable rows members) root values (length out) in (
+  write = λ {rows} {members} {entries} {values} {out} {out′} {root} r p.
+      let write = Rules.write (typeTable rows members entries) root values (length out) in (
         refuses-told (writtenOf r) write (λ w. record { bytes = length (w .bytes); handles = w .handles }) (p .answer),
         keeps (andThen (writtenOf r) (λ n. accepted (n .bytes))) (andThen write (λ w. accepted (w .bytes))) out out′ (rw (p .answer) (byte-count write)) (p .output),
       );
@@ -113,8 +113,8 @@ demand1 = record {
   judgePart = λ {bytes} {at} {count} r p. refuses-same _ _ (text-answer (part bytes at count) r (p .answer));
   listed = λ {message} {out} {out′} {count} p.
       (λ f e. listing-refused (length message) e, rw (p .output) (past-stored (listing message) out 0 count (omega (arith, p .answer))));
-  roundTrip = λ {rows} {members} {message} {values} {values′} {out} {out′} {root} {handles} r p.
-      let m = Doing.message (typeTable rows members) message handles in
+  roundTrip = λ {rows} {members} {entries} {message} {values} {values′} {out} {out′} {root} {handles} r p.
+      let m = Doing.message (typeTable rows members entries) message handles in
       let whole = trip m root (length values) (length out) in (
         trip-refused r whole (p .answer),
         keeps _ (tripValues m root (length values) (length out)) values values′ refl (p .values-list),

@@ -108,38 +108,38 @@ just-message (accepted w) message handles e l =
     rw (← h, ← b)
 just-message (refused f) message handles e l = absurd (let z : _≡_ {A = ℕ} 0 1 = cc in omega arith)
 
-module _ (rows members : List ℕ) (root : ℕ) where
+module _ (rows members entries : List ℕ) (root : ℕ) where
   abbrev table : TypeTable
-  table = typeTable rows members
+  table = typeTable rows members entries
 
-  is-read-as : {message values : List ℕ} {handles : ℕ} → HasValue table root message handles values → IsReadAs rows members root message handles values
+  is-read-as : {message values : List ℕ} {handles : ℕ} → HasValue table root message handles values → IsReadAs rows members entries root message handles values
   is-read-as v lent lent′ r room p = let e = v (length lent) room in (given-accepted r (p .answer ∙ rw e), p .list ∙ rw e)
 
-  is-listed-as : {message objects : List ℕ} {handles : ℕ} → HasObjects table root message handles objects → IsListedAs rows members root message handles objects
+  is-listed-as : {message objects : List ℕ} {handles : ℕ} → HasObjects table root message handles objects → IsListedAs rows members entries root message handles objects
   is-listed-as v lent lent′ r room p = let e = v (length lent) room in (given-accepted r (p .answer ∙ rw e), p .list ∙ rw e)
 
-  is-read-both-as : {message values objects : List ℕ} {handles : ℕ} → HasBoth table root message handles values objects → IsReadBothAs rows members root message handles values objects
+  is-read-both-as : {message values objects : List ℕ} {handles : ℕ} → HasBoth table root message handles values objects → IsReadBothAs rows members entries root message handles values objects
   is-read-both-as b lent lent′ lentObjects lentObjects′ r room room₂ p =
       let e = b (length lent) (length lentObjects) room room₂ in
       (reading-accepted r (p .answer ∙ rw e), p .values-list ∙ rw e, p .objects-list ∙ rw e)
 
-  is-written-as : {message values : List ℕ} {handles : ℕ} → IsWrittenTo table root values message handles → IsWrittenAs rows members root values message handles
+  is-written-as : {message values : List ℕ} {handles : ℕ} → IsWrittenTo table root values message handles → IsWrittenAs rows members entries root values message handles
   is-written-as w out out′ r room p = let e = w (length out) room in (written-accepted r (p .answer ∙ rw e), p .output ∙ rw e)
 
   -- And back: a call with just the room that is needed tells.
 
-  has-value : (message : List ℕ) (handles : ℕ) (values : List ℕ) → IsReadAs rows members root message handles values → HasValue table root message handles values
+  has-value : (message : List ℕ) (handles : ℕ) (values : List ℕ) → IsReadAs rows members entries root message handles values → HasValue table root message handles values
   has-value message handles values i room fits =
-      let m = Doing.message (typeTable rows members) message handles in
+      let m = Doing.message (typeTable rows members entries) message handles in
       let given = Rules.readValues m root (length values) in
       let e = given-as (lengthOf given) in
       let q = i values (lentAfter given values) (givenAs (lengthOf given)) (omega arith) (record { answer = e; list = refl; numbers = given-numbers (givenAs (lengthOf given)) given e }) in
       values-more m root (length values) room (just-list given values (q .0) (q .1)) fits
 
-  both-given : (message : List ℕ) (handles : ℕ) (values objects : List ℕ) → IsReadBothAs rows members root message handles values objects
+  both-given : (message : List ℕ) (handles : ℕ) (values objects : List ℕ) → IsReadBothAs rows members entries root message handles values objects
       → HasValue table root message handles values × HasObjects table root message handles objects
   both-given message handles values objects i =
-      let m = Doing.message (typeTable rows members) message handles in
+      let m = Doing.message (typeTable rows members entries) message handles in
       let given = Rules.read m root (length values) (length objects) in
       let e = reading-as (lengthsOf given) in
       let q = i values (lentAfter (valuesIn given) values) objects (lentAfter (objectsIn given) objects) (readingAs (lengthsOf given)) (omega arith) (omega arith)
@@ -147,7 +147,7 @@ module _ (rows members : List ℕ) (root : ℕ) where
       let each = each-of m root (length values) (length objects) (just-lists given values objects (q .0) (q .1) (q .2)) in
       (λ room fits. values-more m root (length values) room (each .values) fits, λ room fits. objects-more m root (length objects) room (each .objects) fits)
 
-  is-written-to : (message : List ℕ) (handles : ℕ) (values : List ℕ) → IsWrittenAs rows members root values message handles → IsWrittenTo table root values message handles
+  is-written-to : (message : List ℕ) (handles : ℕ) (values : List ℕ) → IsWrittenAs rows members entries root values message handles → IsWrittenTo table root values message handles
   is-written-to message handles values i room fits =
       let given = Rules.write table root values (length message) in
       let e = written-as (sizesOf given) in
@@ -162,7 +162,7 @@ module _ (rows members : List ℕ) (root : ℕ) where
   abbrev three : Of.Demand3 table root
   three = Proved.demand3 table root
 
-  pub demand2 : Demand2 rows members root
+  pub demand2 : Demand2 rows members entries root
   demand2 = record {
     acceptedExactlyWhenEncoded = λ message handles oct r p.
         let exactly = two .acceptedExactlyWhenEncoded message handles oct in (
@@ -176,7 +176,7 @@ module _ (rows members : List ℕ) (root : ℕ) where
     writingGivesTheMessage = λ message handles values oct v. is-written-as (two .writingGivesTheMessage message handles values oct (has-value message handles values v));
   }
 
-  canonical-of : (message : List ℕ) (handles : ℕ) → Of.Canonical table root message handles → Canonical rows members root message handles
+  canonical-of : (message : List ℕ) (handles : ℕ) → Of.Canonical table root message handles → Canonical rows members entries root message handles
   canonical-of message handles c =
       record {
         values = c .values;
@@ -198,30 +198,30 @@ module _ (rows members : List ℕ) (root : ℕ) where
 
   -- What was given into a list is written to the message.
   written-back : (message : List ℕ) (handles : ℕ) → Octets message → (lent lent′ list : List ℕ) (count : ℕ)
-      → Rules.readValues (Doing.message (typeTable rows members) message handles) root (length lent) ≡ accepted list → length list ≡ count → lent′ ≡ list ++ drop (length list) lent
-      → IsWrittenAs rows members root (take count lent′) message handles
+      → Rules.readValues (Doing.message (typeTable rows members entries) message handles) root (length lent) ≡ accepted list → length list ≡ count → lent′ ≡ list ++ drop (length list) lent
+      → IsWrittenAs rows members entries root (take count lent′) message handles
   written-back message handles oct lent lent′ list count e long l =
       let read : take count lent′ ≡ list = rw l (take-at list (drop (length list) lent) count long) in
       rw read
       (is-written-as (two .writingGivesTheMessage message handles list oct
-      (λ room fits. values-more (Doing.message (typeTable rows members) message handles) root (length lent) room e fits)))
+      (λ room fits. values-more (Doing.message (typeTable rows members entries) message handles) root (length lent) room e fits)))
 
   values-back : (message : List ℕ) (handles : ℕ) → Octets message → (lent lent′ : List ℕ) (count : ℕ) (given : Answer (List ℕ))
-      → Rules.readValues (Doing.message (typeTable rows members) message handles) root (length lent) ≡ given → accepted count ≡ lengthOf given → lent′ ≡ lentAfter given lent
-      → IsWrittenAs rows members root (take count lent′) message handles
+      → Rules.readValues (Doing.message (typeTable rows members entries) message handles) root (length lent) ≡ given → accepted count ≡ lengthOf given → lent′ ≡ lentAfter given lent
+      → IsWrittenAs rows members entries root (take count lent′) message handles
   values-back message handles oct lent lent′ count (accepted list) e n l = let long : length list ≡ count = cc in written-back message handles oct lent lent′ list count e long l
   values-back message handles oct lent lent′ count (refused f) e n l = absurd (let z : _≡_ {A = ℕ} 0 1 = cc in omega arith)
 
   both-back : (message : List ℕ) (handles : ℕ) → Octets message → (lent lent′ : List ℕ) (room : ℕ) (counts : Lengths) (given : Answer Lists)
-      → Rules.read (Doing.message (typeTable rows members) message handles) root (length lent) room ≡ given → accepted counts ≡ lengthsOf given → lent′ ≡ lentAfter (valuesIn given) lent
-      → IsWrittenAs rows members root (take (counts .values) lent′) message handles
+      → Rules.read (Doing.message (typeTable rows members entries) message handles) root (length lent) room ≡ given → accepted counts ≡ lengthsOf given → lent′ ≡ lentAfter (valuesIn given) lent
+      → IsWrittenAs rows members entries root (take (counts .values) lent′) message handles
   both-back message handles oct lent lent′ room counts (accepted lists) e n l =
       let long : _≡_ {A = Lengths} (record { values = length (lists .values); objects = length (lists .objects) }) counts = cc in
-      written-back message handles oct lent lent′ (lists .values) (counts .values) (each-of (Doing.message (typeTable rows members) message handles) root (length lent) room e .values)
+      written-back message handles oct lent lent′ (lists .values) (counts .values) (each-of (Doing.message (typeTable rows members entries) message handles) root (length lent) room e .values)
       (ap (λ (z : Lengths). z .values) long) l
   both-back message handles oct lent lent′ room counts (refused f) e n l = absurd (let z : _≡_ {A = ℕ} 0 1 = cc in omega arith)
 
-  pub demand3 : Demand3 rows members root
+  pub demand3 : Demand3 rows members entries root
   demand3 = record {
     equalValuesExactlyWhenEqual = λ message message₂ handles handles₂ values values₂ oct oct₂ v v₂.
         three .equalValuesExactlyWhenEqual message message₂ handles handles₂ values values₂ oct oct₂ (has-value message handles values v) (has-value message₂ handles₂ values₂ v₂);

@@ -33,20 +33,20 @@ use Rattle.demands.proofs.round_trip.Kinds as trip-kinds
 use Rattle.demands.proofs.round_trip.Reads as trip
 use Rattle.demands.specs.OtherPromises.{Prepares, LaysOut, AllowsRoot, ReadsHeader, HandsBody, WritesHeader, WritesEpitaph, JudgesText, JudgesPart, IsText, AreText, Lists, RoundTrips}
 
-module _ (κs : Lfts 4) (a : Dens κs prepare-kinds.ps) where
+module _ (κs : Lfts 5) (a : Dens κs prepare-kinds.ps) where
   pub prepare-asks-nothing : prepare.Asked κs a
   prepare-asks-nothing = tt
 
-  pub prepare-promises : (r : resT prepare-kinds.r κs .Denot) (s : AtExit (endedOf 4 prepare-kinds.ps prepare-kinds.r) κs) → prepare.Learnt κs a r s
-      → Prepares (now (a .0)) (now (a .1 .0)) (now (a .1 .1 .0)) (now (s .1 .1 .0)) (now (a .1 .1 .1 .0)) (now (s .1 .1 .1 .0)) r
+  pub prepare-promises : (r : resT prepare-kinds.r κs .Denot) (s : AtExit (endedOf 5 prepare-kinds.ps prepare-kinds.r) κs) → prepare.Learnt κs a r s
+      → Prepares (now (a .0)) (now (a .1 .0)) (now (a .1 .1 .0)) (now (a .1 .1 .1 .0)) (now (s .1 .1 .1 .0)) (now (a .1 .1 .1 .1 .0)) (now (s .1 .1 .1 .1 .0)) r
   prepare-promises r s l = record { answer = l .0; sizes-list = l .1 .0; alignments-list = l .1 .1 .0; numbers = l .1 .1 .1 }
 
-module _ (κs : Lfts 2) (a : Dens κs layout-kinds.ps) where
+module _ (κs : Lfts 3) (a : Dens κs layout-kinds.ps) where
   pub layout-of-asks-nothing : layout.Asked κs a
   layout-of-asks-nothing = tt
 
-  pub layout-of-promises : (r : resT layout-kinds.r κs .Denot) (s : AtExit (endedOf 2 layout-kinds.ps layout-kinds.r) κs) → layout.Learnt κs a r s
-      → LaysOut (now (a .0)) (now (a .1 .0)) (a .1 .1 .0) r
+  pub layout-of-promises : (r : resT layout-kinds.r κs .Denot) (s : AtExit (endedOf 3 layout-kinds.ps layout-kinds.r) κs) → layout.Learnt κs a r s
+      → LaysOut (now (a .0)) (now (a .1 .0)) (now (a .1 .1 .0)) (a .1 .1 .1 .0) r
   layout-of-promises r s l = record { answer = l .0; numbers = l .1 }
 
 module _ (κs : Lfts 1) (a : Dens κs root-kinds.ps) where
@@ -129,11 +129,11 @@ module _ (κs : Lfts 2) (a : Dens κs listing-kinds.ps) where
       → Lists (now (a .0)) (now (a .1 .0)) (now (s .1 .0)) r
   listing-promises r s l = record { answer = l .0; output = l .1 .0 }
 
-module _ (κs : Lfts 5) (a : Dens κs trip-kinds.ps) where
+module _ (κs : Lfts 6) (a : Dens κs trip-kinds.ps) where
   pub round-trip-asks-nothing : trip.Asked κs a
   round-trip-asks-nothing = tt
 
-  pub round-trip-promises : (r : resT trip-kinds.r κs .Denot) (s : AtExit (endedOf 5 trip-kinds.ps trip-kinds.r) κs) → trip.Learnt κs a r s
-      → RoundTrips (now (a .0)) (now (a .1 .0)) (a .1 .1 .0) (now (a .1 .1 .1 .0)) (a .1 .1 .1 .1 .0) (now (a .1 .1 .1 .1 .1 .0)) (now (s .1 .1 .1 .1 .1 .0))
-      (now (a .1 .1 .1 .1 .1 .1 .0)) (now (s .1 .1 .1 .1 .1 .1 .0)) r
+  pub round-trip-promises : (r : resT trip-kinds.r κs .Denot) (s : AtExit (endedOf 6 trip-kinds.ps trip-kinds.r) κs) → trip.Learnt κs a r s
+      → RoundTrips (now (a .0)) (now (a .1 .0)) (now (a .1 .1 .0)) (a .1 .1 .1 .0) (now (a .1 .1 .1 .1 .0)) (a .1 .1 .1 .1 .1 .0) (now (a .1 .1 .1 .1 .1 .1 .0)) (now (s .1 .1 .1 .1 .1 .1 .0))
+      (now (a .1 .1 .1 .1 .1 .1 .1 .0)) (now (s .1 .1 .1 .1 .1 .1 .1 .0)) r
   round-trip-promises r s l = record { answer = l .0; values-list = l .1 .0; output = l .1 .1 }

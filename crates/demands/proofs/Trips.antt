@@ -165,42 +165,42 @@ trip-too-small m root values-room out-room oct passed short =
 
 -- ---- there and back again
 
-module _ (rows members message : List ℕ) (root handles : ℕ) (verdict : Verdict) (checked : verdictOf verdict ≡ Rules.check (Doing.message (typeTable rows members) message handles) root) where
+module _ (rows members entries message : List ℕ) (root handles : ℕ) (verdict : Verdict) (checked : verdictOf verdict ≡ Rules.check (Doing.message (typeTable rows members entries) message handles) root) where
   -- What the round trip promises: its answer, and both lists after it.
   abbrev Trips : (values values′ out out′ : List ℕ) → Trip → Type 0
   Trips values values′ out out′ r =
-      (r ≡ tripOf (trip (Doing.message (typeTable rows members) message handles) root (length values) (length out)))
-      × ((values′ ≡ lentAfter (tripValues (Doing.message (typeTable rows members) message handles) root (length values) (length out)) values)
-      × (out′ ≡ outputAfter (trip (Doing.message (typeTable rows members) message handles) root (length values) (length out)) out))
+      (r ≡ tripOf (trip (Doing.message (typeTable rows members entries) message handles) root (length values) (length out)))
+      × ((values′ ≡ lentAfter (tripValues (Doing.message (typeTable rows members entries) message handles) root (length values) (length out)) values)
+      × (out′ ≡ outputAfter (trip (Doing.message (typeTable rows members entries) message handles) root (length values) (length out)) out))
 
-  refused-trip : {values out : List ℕ} {f : Fault} → trip (Doing.message (typeTable rows members) message handles) root (length values) (length out) ≡ refused f
+  refused-trip : {values out : List ℕ} {f : Fault} → trip (Doing.message (typeTable rows members entries) message handles) root (length values) (length out) ≡ refused f
       → Trips values values out out (Refused f)
   refused-trip e = (rw e, (rw e, rw e))
 
   pub trip-unchecked : {values out : List ℕ} {f : Fault} → verdict ≡ Checked.Refused f → Trips values values out out (Refused f)
   trip-unchecked {f = f} e =
-      let c : refused f ≡ Rules.check (Doing.message (typeTable rows members) message handles) root = sym (ap verdictOf e) ∙ checked in
+      let c : refused f ≡ Rules.check (Doing.message (typeTable rows members entries) message handles) root = sym (ap verdictOf e) ∙ checked in
       refused-trip (rw (← c))
 
   module _ (e : verdict ≡ Checked.Accepted) where
-    pub passed : Rules.check (Doing.message (typeTable rows members) message handles) root ≡ accepted tt
+    pub passed : Rules.check (Doing.message (typeTable rows members entries) message handles) root ≡ accepted tt
     passed = sym checked ∙ ap verdictOf e
 
-    abbrev pub held : Held (Doing.message (typeTable rows members) message handles) root
-    held = held-of (Doing.message (typeTable rows members) message handles) root passed
+    abbrev pub held : Held (Doing.message (typeTable rows members entries) message handles) root
+    held = held-of (Doing.message (typeTable rows members entries) message handles) root passed
 
     pub trip-short : {values out : List ℕ} {count : ℕ} → Octets message → length out < length message
-        → refused (fault 22 (Amount count)) ≡ outputTooSmall (Doing.message (typeTable rows members) message handles) root (length values)
+        → refused (fault 22 (Amount count)) ≡ outputTooSmall (Doing.message (typeTable rows members entries) message handles) root (length values)
         → Trips values values out out (Refused (fault 22 (Amount count)))
     trip-short {values} {out} oct short e =
-        refused-trip (trip-too-small (Doing.message (typeTable rows members) message handles) root (length values) (length out) oct passed short ∙ sym e)
+        refused-trip (trip-too-small (Doing.message (typeTable rows members entries) message handles) root (length values) (length out) oct passed short ∙ sym e)
 
-    module _ (values values′ : List ℕ) (g : Given) (answer : givenOf g ≡ lengthOf (Rules.readValues (Doing.message (typeTable rows members) message handles) root (length values)))
-        (list : values′ ≡ lentAfter (Rules.readValues (Doing.message (typeTable rows members) message handles) root (length values)) values) where
+    module _ (values values′ : List ℕ) (g : Given) (answer : givenOf g ≡ lengthOf (Rules.readValues (Doing.message (typeTable rows members entries) message handles) root (length values)))
+        (list : values′ ≡ lentAfter (Rules.readValues (Doing.message (typeTable rows members entries) message handles) root (length values)) values) where
       pub trip-unread : {out : List ℕ} {f : Fault} → g ≡ One.Refused f → Trips values values′ out out (Refused f)
       trip-unread {out} {f} q =
-          let r : Rules.readValues (Doing.message (typeTable rows members) message handles) root (length values) ≡ refused f =
-          go (Rules.readValues (Doing.message (typeTable rows members) message handles) root (length values)) (sym (ap givenOf q) ∙ answer) in
+          let r : Rules.readValues (Doing.message (typeTable rows members entries) message handles) root (length values) ≡ refused f =
+          go (Rules.readValues (Doing.message (typeTable rows members entries) message handles) root (length values)) (sym (ap givenOf q) ∙ answer) in
           let kept : values′ ≡ values = list ∙ rw r in
           rw kept (refused-trip (rw (passed, r)))
         where
@@ -210,7 +210,7 @@ module _ (rows members message : List ℕ) (root handles : ℕ) (verdict : Verdi
 
       -- What the message holds was read, all of it.
       read-all : {count : ℕ} → g ≡ One.Accepted count
-          → (Rules.readValues (Doing.message (typeTable rows members) message handles) root (length values) ≡ accepted (held .list)) × (count ≡ length (held .list))
+          → (Rules.readValues (Doing.message (typeTable rows members entries) message handles) root (length values) ≡ accepted (held .list)) × (count ≡ length (held .list))
       read-all {count} q =
           let x = go (leb (length (held .list)) (length values)) (sym (ap givenOf q) ∙ answer ∙ ap lengthOf (held .reads (length values))) in
           (held .reads (length values) ∙ x .0, x .1)
@@ -223,14 +223,14 @@ module _ (rows members message : List ℕ) (root handles : ℕ) (verdict : Verdi
       pub read-starts : {count : ℕ} → g ≡ One.Accepted count → Starts count (held .list) values′
       read-starts q = let x = read-all q in starts (held .list) (drop (length (held .list)) values) (x .1) (list ∙ rw (x .0))
 
-      pub read-written : {count : ℕ} → Octets message → g ≡ One.Accepted count → IsWrittenTo (typeTable rows members) root (take count values′) message handles
-      read-written oct q = rw (read-starts q .same) (held-written (Doing.message (typeTable rows members) message handles) root held oct)
+      pub read-written : {count : ℕ} → Octets message → g ≡ One.Accepted count → IsWrittenTo (typeTable rows members entries) root (take count values′) message handles
+      read-written oct q = rw (read-starts q .same) (held-written (Doing.message (typeTable rows members entries) message handles) root held oct)
 
       pub trip-back : {count : ℕ} (out out′ : List ℕ) {r : Trip} → Octets message → length message ≤ length out → g ≡ One.Accepted count
           → (r ≡ Same) × (out′ ≡ message ++ drop (length message) out) → Trips values values′ out out′ r
       trip-back out out′ oct fits q back =
           let x = read-all q in
-          let w = held-written (Doing.message (typeTable rows members) message handles) root held oct (length out) fits in
+          let w = held-written (Doing.message (typeTable rows members entries) message handles) root held oct (length out) fits in
           (back .0 ∙ rw (passed, x .0, w), (list ∙ rw (passed, x .0, w), back .1 ∙ rw (passed, x .0, w)))
 
 pub comes-back : (m : Message) (root : ℕ) → ComesBack m root

@@ -49,21 +49,21 @@ Keeps (refused f) lent after = after ≡ lent
 
 -- `root_allowed`, `is_utf8` and `are_utf8` refuse nothing and are lent nothing: their promise is all there is to say.
 pub record Demand1 : Type 0 where
-  pub check : {rows members message : List ℕ} {root handles : ℕ} (r : Verdict) → Checks rows members root message handles r
-      → Refuses (verdictOf r) (Rules.check (Doing.message (typeTable rows members) message handles) root)
-  pub readValues : {rows members message values values′ : List ℕ} {root handles : ℕ} (r : Given) → ReadsValues rows members root message handles values values′ r
-      → Refuses (givenOf r) (Rules.readValues (Doing.message (typeTable rows members) message handles) root (length values)) × Keeps (givenOf r) values values′
-  pub readObjects : {rows members message objects objects′ : List ℕ} {root handles : ℕ} (r : Given) → ReadsObjects rows members root message handles objects objects′ r
-      → Refuses (givenOf r) (Rules.readObjects (Doing.message (typeTable rows members) message handles) root (length objects)) × Keeps (givenOf r) objects objects′
-  pub read : {rows members message values values′ objects objects′ : List ℕ} {root handles : ℕ} (r : Reading) → Reads rows members root message handles values values′ objects objects′ r
-      → Refuses (readingOf r) (Rules.read (Doing.message (typeTable rows members) message handles) root (length values) (length objects))
+  pub check : {rows members entries message : List ℕ} {root handles : ℕ} (r : Verdict) → Checks rows members entries root message handles r
+      → Refuses (verdictOf r) (Rules.check (Doing.message (typeTable rows members entries) message handles) root)
+  pub readValues : {rows members entries message values values′ : List ℕ} {root handles : ℕ} (r : Given) → ReadsValues rows members entries root message handles values values′ r
+      → Refuses (givenOf r) (Rules.readValues (Doing.message (typeTable rows members entries) message handles) root (length values)) × Keeps (givenOf r) values values′
+  pub readObjects : {rows members entries message objects objects′ : List ℕ} {root handles : ℕ} (r : Given) → ReadsObjects rows members entries root message handles objects objects′ r
+      → Refuses (givenOf r) (Rules.readObjects (Doing.message (typeTable rows members entries) message handles) root (length objects)) × Keeps (givenOf r) objects objects′
+  pub read : {rows members entries message values values′ objects objects′ : List ℕ} {root handles : ℕ} (r : Reading) → Reads rows members entries root message handles values values′ objects objects′ r
+      → Refuses (readingOf r) (Rules.read (Doing.message (typeTable rows members entries) message handles) root (length values) (length objects))
       × Keeps (andThen (readingOf r) (λ n. accepted (n .values))) values values′ × Keeps (andThen (readingOf r) (λ n. accepted (n .objects))) objects objects′
-  pub write : {rows members values out out′ : List ℕ} {root : ℕ} (r : Written) → Writes rows members root values out out′ r
-      → Refuses (writtenOf r) (Rules.write (typeTable rows members) root values (length out)) × Keeps (andThen (writtenOf r) (λ n. accepted (n .bytes))) out out′
-  pub prepare : {rows members sizes sizes′ alignments alignments′ : List ℕ} (r : Soundness) → Prepares rows members sizes sizes′ alignments alignments′ r
-      → Refuses (Layout.verdictOf r) (soundness (typeTable rows members))
+  pub write : {rows members entries values out out′ : List ℕ} {root : ℕ} (r : Written) → Writes rows members entries root values out out′ r
+      → Refuses (writtenOf r) (Rules.write (typeTable rows members entries) root values (length out)) × Keeps (andThen (writtenOf r) (λ n. accepted (n .bytes))) out out′
+  pub prepare : {rows members entries sizes sizes′ alignments alignments′ : List ℕ} (r : Soundness) → Prepares rows members entries sizes sizes′ alignments alignments′ r
+      → Refuses (Layout.verdictOf r) (soundness (typeTable rows members entries))
       × ((f : Fault) → Layout.verdictOf r ≡ refused f → (sizes′ ≡ sizes) × (alignments′ ≡ alignments))
-  pub layoutOf : {rows members : List ℕ} {row : ℕ} (r : LayoutAnswer) → LaysOut rows members row r → Refuses (Layout.answerOf r) (Rules.layoutAnswer (typeTable rows members) row)
+  pub layoutOf : {rows members entries : List ℕ} {row : ℕ} (r : LayoutAnswer) → LaysOut rows members entries row r → Refuses (Layout.answerOf r) (Rules.layoutAnswer (typeTable rows members entries) row)
   -- Where the header is refused, the status is 0.
   pub readHeader : {message : List ℕ} (r : HeaderAnswer) → ReadsHeader message r
       → Refuses (Meaning.answerOf r) (HeaderRules.readHeader message) × ((f : Fault) → HeaderRules.readHeader message ≡ refused f → Meaning.statusOf r ≡ pos 0)
@@ -78,7 +78,7 @@ pub record Demand1 : Type 0 where
   -- A listing tells a refusal, in its two lines, and nothing past it changes.
   pub listed : {message out out′ : List ℕ} {count : ℕ} → Lists message out out′ count
       → ((f : Fault) → answered message ≡ refused f → listing message ≡ head (f .number) (placeNumber (f .place))) × (drop count out′ ≡ drop count out)
-  pub roundTrip : {rows members message values values′ out out′ : List ℕ} {root handles : ℕ} (r : Trip) → RoundTrips rows members root message handles values values′ out out′ r
-      → ((f : Fault) → (r ≡ Refused f) ↔ (trip (Doing.message (typeTable rows members) message handles) root (length values) (length out) ≡ refused f))
-      × Keeps (andThen (tripValues (Doing.message (typeTable rows members) message handles) root (length values) (length out)) (λ list. accepted (length list))) values values′
-      × Keeps (andThen (trip (Doing.message (typeTable rows members) message handles) root (length values) (length out)) (λ w. accepted (length (w .bytes)))) out out′
+  pub roundTrip : {rows members entries message values values′ out out′ : List ℕ} {root handles : ℕ} (r : Trip) → RoundTrips rows members entries root message handles values values′ out out′ r
+      → ((f : Fault) → (r ≡ Refused f) ↔ (trip (Doing.message (typeTable rows members entries) message handles) root (length values) (length out) ≡ refused f))
+      × Keeps (andThen (tripValues (Doing.message (typeTable rows members entries) message handles) root (length values) (length out)) (λ list. accepted (length list))) values values′
+      × Keeps (andThen (trip (Doing.message (typeTable rows members entries) message handles) root (length values) (length out)) (λ w. accepted (length (w .bytes)))) out out′

@@ -29,16 +29,16 @@ use Rattle.demands.specs.declared.Trip.{Trip}
 use Rattle.demands.specs.Trips.{trip, tripValues, tripOf}
 
 -- layout::prepare
-pub record Prepares (rows members sizes sizes′ alignments alignments′ : List ℕ) (r : Soundness) : Type 0 where
-  pub answer : Layout.verdictOf r ≡ soundness (typeTable rows members)
-  pub sizes-list : sizes′ ≡ Layout.givenIfSound (typeTable rows members) (Layout.keptSizes (typeTable rows members)) sizes
-  pub alignments-list : alignments′ ≡ Layout.givenIfSound (typeTable rows members) (Layout.keptAlignments (typeTable rows members)) alignments
-  pub numbers : Layout.verdictNumbers r ≡ numbersOf 0 nothing (soundness (typeTable rows members))
+pub record Prepares (rows members entries sizes sizes′ alignments alignments′ : List ℕ) (r : Soundness) : Type 0 where
+  pub answer : Layout.verdictOf r ≡ soundness (typeTable rows members entries)
+  pub sizes-list : sizes′ ≡ Layout.givenIfSound (typeTable rows members entries) (Layout.keptSizes (typeTable rows members entries)) sizes
+  pub alignments-list : alignments′ ≡ Layout.givenIfSound (typeTable rows members entries) (Layout.keptAlignments (typeTable rows members entries)) alignments
+  pub numbers : Layout.verdictNumbers r ≡ numbersOf 0 nothing (soundness (typeTable rows members entries))
 
 -- layout::layout_of
-pub record LaysOut (rows members : List ℕ) (row : ℕ) (r : LayoutAnswer) : Type 0 where
-  pub answer : Layout.answerOf r ≡ layoutAnswer (typeTable rows members) row
-  pub numbers : Layout.answerNumbers r ≡ numbersOf 2 laid (layoutAnswer (typeTable rows members) row)
+pub record LaysOut (rows members entries : List ℕ) (row : ℕ) (r : LayoutAnswer) : Type 0 where
+  pub answer : Layout.answerOf r ≡ layoutAnswer (typeTable rows members entries) row
+  pub numbers : Layout.answerNumbers r ≡ numbersOf 2 laid (layoutAnswer (typeTable rows members entries) row)
 
 -- layout::root_allowed
 pub record AllowsRoot (rows : List ℕ) (root : ℕ) (r : Bool) : Type 0 where
@@ -91,7 +91,7 @@ pub record Lists (message out out′ : List ℕ) (count : ℕ) : Type 0 where
   pub output : out′ ≡ sets out 0 (listing message)
 
 -- demands::round_trip
-pub record RoundTrips (rows members : List ℕ) (root : ℕ) (message : List ℕ) (handles : ℕ) (values values′ out out′ : List ℕ) (r : Trip) : Type 0 where
-  pub answer : r ≡ tripOf (trip (Doing.message (typeTable rows members) message handles) root (length values) (length out))
-  pub values-list : values′ ≡ lentAfter (tripValues (Doing.message (typeTable rows members) message handles) root (length values) (length out)) values
-  pub output : out′ ≡ outputAfter (trip (Doing.message (typeTable rows members) message handles) root (length values) (length out)) out
+pub record RoundTrips (rows members entries : List ℕ) (root : ℕ) (message : List ℕ) (handles : ℕ) (values values′ out out′ : List ℕ) (r : Trip) : Type 0 where
+  pub answer : r ≡ tripOf (trip (Doing.message (typeTable rows members entries) message handles) root (length values) (length out))
+  pub values-list : values′ ≡ lentAfter (tripValues (Doing.message (typeTable rows members entries) message handles) root (length values) (length out)) values
+  pub output : out′ ≡ outputAfter (trip (Doing.message (typeTable rows members entries) message handles) root (length values) (length out)) out

@@ -32,18 +32,20 @@ pub enum Trip {
 fn needed(
     rows: &[u32],
     members: &[u32],
+    entries: &[u64],
     root: u32,
     message: &[u8],
     handles: u64,
     room: usize,
 ) -> usize
-    requires { ⌜ Rules.check (Doing.message (typeTable (now rows) (now members)) (now message) handles) root ≡ accepted tt ⌝ }
-    ensures { λ r. ⌜ refused (fault 22 (Amount r)) ≡ outputTooSmall (Doing.message (typeTable (now (rows .entry)) (now (members .entry))) (now (message .entry)) handles) root room ⌝ }
+    requires { ⌜ Rules.check (Doing.message (typeTable (now rows) (now members) (now entries)) (now message) handles) root ≡ accepted tt ⌝ }
+    ensures { λ r. ⌜ refused (fault 22 (Amount r)) ≡ outputTooSmall (Doing.message (typeTable (now (rows .entry)) (now (members .entry)) (now (entries .entry))) (now (message .entry)) handles) root room ⌝ }
 {
     let mut no_values = [0u64; 0];
     if let Given::Refused(f) = reader::read_values(
         rows,
         members,
+        entries,
         root,
         message,
         handles,
@@ -61,17 +63,18 @@ fn needed(
 fn back(
     rows: &[u32],
     members: &[u32],
+    entries: &[u64],
     root: u32,
     message: &[u8],
     handles: u64,
     values: &[u64],
     out: &mut [u8],
 ) -> Trip
-    requires { ⌜ IsWrittenTo (typeTable (now rows) (now members)) root (now values) (now message) handles × (length (now message) ≤ length (now out)) ⌝ }
+    requires { ⌜ IsWrittenTo (typeTable (now rows) (now members) (now entries)) root (now values) (now message) handles × (length (now message) ≤ length (now out)) ⌝ }
     ensures answer { λ r. ⌜ r ≡ Same ⌝ }
     ensures output { λ _. ⌜ now (out .exit) ≡ now (message .entry) ++ drop (length (now (message .entry))) (now (out .entry)) ⌝ }
 {
-    match writer::write(rows, members, root, values, out) {
+    match writer::write(rows, members, entries, root, values, out) {
         Written::Refused(f) => Trip::Refused(f),
         Written::Accepted(sizes) => {
             let count = sizes.bytes;
@@ -90,31 +93,33 @@ fn back(
 pub fn round_trip(
     rows: &[u32],
     members: &[u32],
+    entries: &[u64],
     root: u32,
     message: &[u8],
     handles: u64,
     values: &mut [u64],
     out: &mut [u8],
 ) -> Trip
-    ensures answer { λ r. ⌜ r ≡ tripOf (trip (Doing.message (typeTable (now (rows .entry)) (now (members .entry))) (now (message .entry)) handles) root (length (now (values .entry))) (length (now (out .entry)))) ⌝ }
-    ensures values { λ _. ⌜ now (values .exit) ≡ lentAfter (tripValues (Doing.message (typeTable (now (rows .entry)) (now (members .entry))) (now (message .entry)) handles) root (length (now (values .entry))) (length (now (out .entry)))) (now (values .entry)) ⌝ }
-    ensures output { λ _. ⌜ now (out .exit) ≡ outputAfter (trip (Doing.message (typeTable (now (rows .entry)) (now (members .entry))) (now (message .entry)) handles) root (length (now (values .entry))) (length (now (out .entry)))) (now (out .entry)) ⌝ }
+    ensures answer { λ r. ⌜ r ≡ tripOf (trip (Doing.message (typeTable (now (rows .entry)) (now (members .entry)) (now (entries .entry))) (now (message .entry)) handles) root (length (now (values .entry))) (length (now (out .entry)))) ⌝ }
+    ensures values { λ _. ⌜ now (values .exit) ≡ lentAfter (tripValues (Doing.message (typeTable (now (rows .entry)) (now (members .entry)) (now (entries .entry))) (now (message .entry)) handles) root (length (now (values .entry))) (length (now (out .entry)))) (now (values .entry)) ⌝ }
+    ensures output { λ _. ⌜ now (out .exit) ≡ outputAfter (trip (Doing.message (typeTable (now (rows .entry)) (now (members .entry)) (now (entries .entry))) (now (message .entry)) handles) root (length (now (values .entry))) (length (now (out .entry)))) (now (out .entry)) ⌝ }
 {
-    if let Verdict::Refused(f) = reader::check(rows, members, root, message, handles) {
+    if let Verdict::Refused(f) = reader::check(rows, members, entries, root, message, handles) {
         return Trip::Refused(f);
     }
     if out.len() < message.len() {
-        let count = needed(rows, members, root, message, handles, values.len());
+        let count = needed(rows, members, entries, root, message, handles, values.len());
         return Trip::Refused(Fault {
             number: 22,
             place: Place::Amount(count),
         });
     }
-    match reader::read_values(rows, members, root, message, handles, values) {
+    match reader::read_values(rows, members, entries, root, message, handles, values) {
         Given::Refused(f) => Trip::Refused(f),
         Given::Accepted(count) => back(
             rows,
             members,
+            entries,
             root,
             message,
             handles,

@@ -10,13 +10,13 @@ use lib.Dec.{eqb, leb, ltb}
 use borrow.Author.Count.{below-none, below-more}
 use borrow.Author.Tests.{eqb-true, leb-true, leb-false, ltb-true, ltb-false}
 use Rattle.rules.specs.declared.Layout.{Layout}
-use Rattle.rules.specs.TypeTable.{TypeTable, bAt, cAt, rowOf, FidlType, bool, number, handle, array, vector, string, struct, box, table, union, none, typeOf, memberRows}
+use Rattle.rules.specs.TypeTable.{TypeTable, bAt, cAt, rowOf, FidlType, bool, number, handle, array, vector, string, struct, box, table, union, strictEnum, strictBits, none, typeOf, memberRows}
 use Rattle.rules.specs.Sizes.{largestAlignment, fieldsFrom, fieldsOf, fieldsSize, structSize, layoutAs, layoutBelow, layoutOf}
-use Rattle.rules.specs.Sound.{structMembers, rowFits, rowSound}
+use Rattle.rules.specs.Sound.{structMembers, widthAllowed, rowFits, rowSound}
 use Rattle.layout.specs.Running.{Alignment, one, two, four, eight}
 use Rattle.layout.specs.Kept.{SoundBelow}
 use Rattle.rules.proofs.Tests.{both}
-use Rattle.layout.proofs.Rows.{sound-fits, sound-size, layout-below, layout-outside, layout-step, array-fits, struct-fits, member-fits}
+use Rattle.layout.proofs.Rows.{sound-fits, sound-size, layout-below, layout-outside, layout-step, array-fits, struct-fits, member-fits, enum-fits, bits-fits}
 
 -- ---- alignments
 
@@ -41,7 +41,7 @@ width-cases w false false true w8 e1 e2 e4 e8 e = subst Alignment (sym (eqb-true
 width-cases w false false false true e1 e2 e4 e8 e = subst Alignment (sym (eqb-true w 8 e8)) eight
 width-cases w false false false false e1 e2 e4 e8 e = let z : _≡_ {A = ℕ} 0 1 = cc in absurd (omega arith)
 
-width-alignment : (w : ℕ) → (eqb w 1 || eqb w 2 || eqb w 4 || eqb w 8) ≡ true → Alignment w
+width-alignment : (w : ℕ) → widthAllowed w ≡ true → Alignment w
 width-alignment w e = width-cases w (eqb w 1) (eqb w 2) (eqb w 4) (eqb w 8) refl refl refl refl e
 
 larger-case : (a b : ℕ) (le : Bool) → leb a b ≡ le → Alignment a → Alignment b → Alignment (max a b)
@@ -54,8 +54,13 @@ larger-alignment {a} {b} p q = larger-case a b (leb a b) refl p q
 number-alignment : (t : TypeTable) (row width : ℕ) → rowFits t row (number width) ≡ true → Alignment width
 unfolding rowFits
 number-alignment t row width e =
-    let widths = eqb width 1 || eqb width 2 || eqb width 4 || eqb width 8 in
-    width-alignment width (both widths (eqb (bAt t row) 0) (both (widths && eqb (bAt t row) 0) (eqb (cAt t row) 0) e .0) .0)
+    width-alignment width (both (widthAllowed width) (eqb (bAt t row) 0) (both (widthAllowed width && eqb (bAt t row) 0) (eqb (cAt t row) 0) e .0) .0)
+
+enum-alignment : (t : TypeTable) (row width first count : ℕ) → rowFits t row (strictEnum width first count) ≡ true → Alignment width
+enum-alignment t row width first count e = width-alignment width (enum-fits t row width first count e .allowed)
+
+bits-alignment : (t : TypeTable) (row width mask : ℕ) → rowFits t row (strictBits width mask) ≡ true → Alignment width
+bits-alignment t row width mask e = width-alignment width (bits-fits t row width mask e .allowed)
 
 -- ---- one row, whose inner rows are laid out by `inner`
 
@@ -83,6 +88,8 @@ module _
     row-alignment (box element) e = eight
     row-alignment (table first count) e = eight
     row-alignment (union first count optional flexible) e = eight
+    row-alignment (strictEnum width first count) e = enum-alignment t row width first count e
+    row-alignment (strictBits width mask) e = bits-alignment t row width mask e
     row-alignment none e = one
 
     struct-some : (first count : ℕ) → structMembers t row first count 1 ≡ true → 1 ≤ structSize inner (fieldsOf inner (memberRows t first count))
@@ -105,6 +112,8 @@ module _
     row-some (box element) e = omega arith
     row-some (table first count) e = omega arith
     row-some (union first count optional flexible) e = omega arith
+    row-some (strictEnum width first count) e = alignment-bounds (enum-alignment t row width first count e) .0
+    row-some (strictBits width mask) e = alignment-bounds (bits-alignment t row width mask e) .0
     row-some none e = let z : false ≡ true = e in let z' : _≡_ {A = ℕ} 0 1 = cc in absurd (omega arith)
 
 -- ---- all rows

@@ -8,10 +8,9 @@ use Rattle.rules.specs.declared.Layout.{Layout}
 use Rattle.rules.specs.Refusals.{accepted}
 use Rattle.rules.specs.TypeTable.{TypeTable, eightByteEnvelopes, envelopeSize, rowCount, kindAt, aAt, bAt, cAt, typeAs, typeOf}
 use Rattle.rules.specs.Sizes.{layoutAs, layoutBelow, sizeOf}
-use Rattle.rules.specs.Sound.{soundness, rowFits}
+use Rattle.rules.specs.Sound.{soundness, rowFits, widthAllowed}
 use Rattle.rules.proofs.Tests.{both}
 use Rattle.layout.proofs.Rows.{layout-step, layout-below, sound-rows, sound-fits, array-fits}
-use Rattle.layout.specs.Ready.{widthAllowed}
 
 -- ---- sizes by kind
 
@@ -54,6 +53,14 @@ module _ (t : TypeTable) (row : ℕ) where
   pub size-table : kindAt t row ≡ 9 → sizeOf t row ≡ 16
   unfolding layoutAs
   size-table e = size-kind e
+
+  pub size-enum : kindAt t row ≡ 11 → sizeOf t row ≡ aAt t row
+  unfolding layoutAs
+  size-enum e = size-kind e
+
+  pub size-bits : kindAt t row ≡ 12 → sizeOf t row ≡ aAt t row
+  unfolding layoutAs
+  size-bits e = size-kind e
 
   -- In the edition with 8-byte envelopes.
   pub size-union : t .edition ≡ eightByteEnvelopes → kindAt t row ≡ 10 → sizeOf t row ≡ 16

@@ -10,3 +10,4 @@ pub mod Roots
 pub mod ByKind
 pub mod Below
 pub mod Readiness
+pub mod Rising

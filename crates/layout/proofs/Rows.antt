@@ -2,7 +2,7 @@
 -- Assumes nothing.
 use mathlib.Core.Bool.{Bool, true, false, _&&_}
 use mathlib.Core.Path.{_≡_, refl, ap, sym, _∙_}
-use Prim.Native.Nat.{ℕ, zero, suc, _+_, _-_, _%_, _≤_, _<_}
+use Prim.Native.Nat.{ℕ, zero, suc, _+_, _-_, _%_, _^_, _≤_, _<_}
 use native.Mathlib.Nat.{not-suc-le-zero}
 use native.Mathlib.Numerals.{sub-one, add-one}
 use native.Mathlib.Omega.{arith}
@@ -13,9 +13,9 @@ use Rattle.rules.proofs.Tests.{both}
 use Rattle.rules.specs.declared.Fault.{Fault}
 use Rattle.rules.specs.declared.Layout.{Layout}
 use Rattle.rules.specs.Refusals.{Answer, accepted, refused, require, if_then_else_}
-use Rattle.rules.specs.TypeTable.{TypeTable, rowCount, memberCount, kindAt, aAt, bAt, cAt, rowOf, ordinalAt, array, struct, none, typeAs, typeOf, below}
+use Rattle.rules.specs.TypeTable.{TypeTable, rowCount, memberCount, kindAt, aAt, bAt, cAt, rowOf, ordinalAt, entryAt, array, struct, strictEnum, strictBits, none, typeAs, typeOf, below}
 use Rattle.rules.specs.Sizes.{layout, layoutStep, layoutAs, layoutBelow, layoutOf, sizeOf}
-use Rattle.rules.specs.Sound.{listsWhole, structMembers, risingMembers, membersExist, rowFits, rowSound, rowsSound, soundness}
+use Rattle.rules.specs.Sound.{listsWhole, structMembers, risingMembers, risingEntries, membersExist, entriesExist, widthAllowed, rowFits, rowSound, rowsSound, soundness}
 use Rattle.layout.specs.Kept.{Fits, SoundBelow}
 
 -- ---- recursion over rows
@@ -63,17 +63,25 @@ pub required : {A : Type 0} (test : Bool) (f : Fault) (a : Answer A) (x : A) →
 required true f a x e = (refl, e)
 required false f a x e = let z : _≡_ {A = Answer _} (refused f) (accepted x) = e in (cc, cc)
 
--- "Lists whole" bounds the rows and the members.
+-- "lists whole" bounds the three lists, and rows are of four numbers.
 pub record Whole (t : TypeTable) : Type 0 where
+  pub fours : length (t .rows) % 4 ≡ 0
   pub rows : length (t .rows) ≤ 1024
   pub members : length (t .members) ≤ 2048
+  pub entries : length (t .entries) ≤ 1024
 
 pub lists-whole : (t : TypeTable) → listsWhole t ≡ true → Whole t
 lists-whole t e =
-    let n = length (t .rows) in let m = length (t .members) in
-    let up = both (eqb (n % 4) 0 && leb 4 n && leb n 1024 && eqb (m % 2) 0) (leb m 2048) e in
+    let n = length (t .rows) in let m = length (t .members) in let k = length (t .entries) in
+    let all = both (eqb (n % 4) 0 && leb 4 n && leb n 1024 && eqb (m % 2) 0 && leb m 2048) (leb k 1024) e in
+    let up = both (eqb (n % 4) 0 && leb 4 n && leb n 1024 && eqb (m % 2) 0) (leb m 2048) (all .0) in
     let rows = both (eqb (n % 4) 0 && leb 4 n) (leb n 1024) (both (eqb (n % 4) 0 && leb 4 n && leb n 1024) (eqb (m % 2) 0) (up .0) .0) in
-    record { rows = leb-true n 1024 (rows .1); members = leb-true m 2048 (up .1) }
+    record {
+      fours = eqb-true (n % 4) 0 (both (eqb (n % 4) 0) (leb 4 n) (rows .0) .0);
+      rows = leb-true n 1024 (rows .1);
+      members = leb-true m 2048 (up .1);
+      entries = leb-true k 1024 (all .1);
+    }
 
 -- ---- sound rows
 
@@ -134,6 +142,27 @@ struct-fits t row first count e =
     let exist = both (membersExist t first count) (eqb (cAt t row) 0) (parts .0) .0 in
     record { exist = leb-true (first + count) (memberCount t) exist; members = parts .1 }
 
+-- The entries that the line of a strict enum or of strict bits names.
+pub record EntriesFit (t : TypeTable) (width first count : ℕ) : Type 0 where
+  pub allowed : widthAllowed width ≡ true
+  pub exist : first + count ≤ length (t .entries)
+  pub rise : risingEntries t width first count 0 ≡ true
+
+entries-fit : (t : TypeTable) (width first count : ℕ) (cells : Bool)
+    → ((widthAllowed width && cells && entriesExist t first count) && risingEntries t width first count 0) ≡ true → EntriesFit t width first count
+entries-fit t width first count cells e =
+    let parts = both (widthAllowed width && cells && entriesExist t first count) (risingEntries t width first count 0) e in
+    let exist = both (widthAllowed width && cells) (entriesExist t first count) (parts .0) in
+    record { allowed = both (widthAllowed width) cells (exist .0) .0; exist = leb-true (first + count) (length (t .entries)) (exist .1); rise = parts .1 }
+
+pub enum-fits : (t : TypeTable) (row width first count : ℕ) → rowFits t row (strictEnum width first count) ≡ true → EntriesFit t width first count
+unfolding rowFits
+enum-fits t row width first count e = entries-fit t width first count (leb 1 count) e
+
+pub bits-fits : (t : TypeTable) (row width mask : ℕ) → rowFits t row (strictBits width mask) ≡ true → EntriesFit t width mask 1
+unfolding rowFits
+bits-fits t row width mask e = entries-fit t width mask 1 (eqb (cAt t row) 1) e
+
 -- One member of a struct, and of a table or union.
 pub struct-step : (t : TypeTable) (row first count ordinal : ℕ) → 0 < count
     → structMembers t row first count ordinal
@@ -157,6 +186,18 @@ pub rising-none : (t : TypeTable) (first before : ℕ) → risingMembers t first
 unfolding risingMembers
 rising-none t first before = refl
 
+-- One entry of a strict enum, or the mask of strict bits.
+pub entries-step : (t : TypeTable) (width first count least : ℕ) → 0 < count
+    → risingEntries t width first count least
+    ≡ ((leb least (entryAt t first) && ltb (entryAt t first) (256 ^ width)) && risingEntries t width (first + 1) (count - 1) (suc (entryAt t first)))
+unfolding risingEntries
+entries-step t width first zero least h = absurd (not-suc-le-zero h)
+entries-step t width first (suc count) least h = rw (add-one first, sub-one (suc count))
+
+pub entries-none : (t : TypeTable) (width first least : ℕ) → risingEntries t width first 0 least ≡ true
+unfolding risingEntries
+entries-none t width first least = refl
+
 -- A member of a struct that fits: its row is below the struct's, and the members after it are as they must be.
 pub record MemberFits (t : TypeTable) (row first count ordinal : ℕ) : Type 0 where
   pub below : rowOf t first < row
@@ -172,7 +213,7 @@ member-fits t row first count ordinal h e =
 
 -- ---- kinds
 
--- A kind that is none of 1 to 10.
+-- A kind that is none of 1 to 12.
 pub record OtherKind (kind : ℕ) : Type 0 where
   pub not-bool : kind ≡ 1 → ⊥
   pub not-number : kind ≡ 2 → ⊥
@@ -184,6 +225,8 @@ pub record OtherKind (kind : ℕ) : Type 0 where
   pub not-box : kind ≡ 8 → ⊥
   pub not-table : kind ≡ 9 → ⊥
   pub not-union : kind ≡ 10 → ⊥
+  pub not-enum : kind ≡ 11 → ⊥
+  pub not-bits : kind ≡ 12 → ⊥
 
 pub other-kind : (kind a b c : ℕ) → OtherKind kind → typeAs kind a b c ≡ none
 other-kind kind a b c o =
@@ -198,6 +241,8 @@ other-kind kind a b c o =
       ne-eqb kind 8 (o .not-box),
       ne-eqb kind 9 (o .not-table),
       ne-eqb kind 10 (o .not-union),
+      ne-eqb kind 11 (o .not-enum),
+      ne-eqb kind 12 (o .not-bits),
     )
 
 -- A layout that goes by a row's kind and `a` alone is the row's layout.

@@ -1,10 +1,8 @@
 -- What a walk or the writer has at hand of a type table.
 -- Assumes nothing.
-use mathlib.Core.Bool.{Bool, _||_}
 use mathlib.Core.List.{List, []}
 use mathlib.Core.Path.{_≡_}
 use Prim.Native.Nat.{ℕ, _≤_, _<_}
-use lib.Dec.{eqb}
 use Rattle.rules.specs.Refusals.{accepted}
 use Rattle.rules.specs.TypeTable.{TypeTable, eightByteEnvelopes, typeTable, rowCount}
 use Rattle.rules.specs.Sound.{soundness}
@@ -22,12 +20,9 @@ pub record Ready (t : TypeTable) (sizes alignments : List ℕ) (depth row : ℕ)
 
 -- Some type table: what holds under any holds under this one, which has no rows.
 abbrev pub someTable : TypeTable
-someTable = typeTable [] []
+someTable = typeTable [] [] []
 
 -- A kind whose record leads out of line.
 abbrev pub Outside : (kind : ℕ) → Type 0
-Outside kind = (kind ≡ 1 → ⊥) × (kind ≡ 2 → ⊥) × (kind ≡ 3 → ⊥) × (kind ≡ 4 → ⊥) × (kind ≡ 6 → ⊥) × (kind ≡ 7 → ⊥)
-
--- A number's width in a sound row.
-abbrev pub widthAllowed : ℕ → Bool
-widthAllowed width = eqb width 1 || eqb width 2 || eqb width 4 || eqb width 8
+Outside kind =
+    (kind ≡ 1 → ⊥) × (kind ≡ 2 → ⊥) × (kind ≡ 3 → ⊥) × (kind ≡ 4 → ⊥) × (kind ≡ 6 → ⊥) × (kind ≡ 7 → ⊥) × (kind ≡ 11 → ⊥) × (kind ≡ 12 → ⊥)

@@ -26,39 +26,41 @@ pub(crate) fn kept_at(sizes: &[u32; 256], alignments: &[u32; 256], row: u32) -> 
 fn inner_layout(
     rows: &[u32],
     members: &[u32],
+    entries: &[u64],
     sizes: &[u32; 256],
     alignments: &[u32; 256],
     kept: u32,
     row: u32,
 ) -> Layout
-    requires { ⌜ Layable (typeTable (now rows) (now members)) kept row (now sizes) (now alignments) ⌝ }
-    ensures { λ r. ⌜ r ≡ layoutOf (typeTable (now (rows .entry)) (now (members .entry))) row ⌝ }
+    requires { ⌜ Layable (typeTable (now rows) (now members) (now entries)) kept row (now sizes) (now alignments) ⌝ }
+    ensures { λ r. ⌜ r ≡ layoutOf (typeTable (now (rows .entry)) (now (members .entry)) (now (entries .entry))) row ⌝ }
 {
     if row < kept {
         return kept_at(sizes, alignments, row);
     }
-    row_layout(rows, members, sizes, alignments, kept, row)
+    row_layout(rows, members, entries, sizes, alignments, kept, row)
 }
 
 pub(crate) fn row_layout(
     rows: &[u32],
     members: &[u32],
+    entries: &[u64],
     sizes: &[u32; 256],
     alignments: &[u32; 256],
     kept: u32,
     row: u32,
 ) -> Layout
-    requires { ⌜ Layable (typeTable (now rows) (now members)) kept row (now sizes) (now alignments) ⌝ }
-    ensures { λ r. ⌜ r ≡ layoutOf (typeTable (now (rows .entry)) (now (members .entry))) row ⌝ }
+    requires { ⌜ Layable (typeTable (now rows) (now members) (now entries)) kept row (now sizes) (now alignments) ⌝ }
+    ensures { λ r. ⌜ r ≡ layoutOf (typeTable (now (rows .entry)) (now (members .entry)) (now (entries .entry))) row ⌝ }
 {
     let kind = table::kind_at(rows, row as usize);
     let a = table::a_at(rows, row as usize);
     match kind {
         4 => array_layout(
-            inner_layout(rows, members, sizes, alignments, kept, a),
+            inner_layout(rows, members, entries, sizes, alignments, kept, a),
             table::b_at(rows, row as usize),
         ),
-        7 => struct_layout(rows, members, sizes, alignments, kept, row),
+        7 => struct_layout(rows, members, entries, sizes, alignments, kept, row),
         _ => fixed_layout(kind, a),
     }
 }
@@ -66,14 +68,15 @@ pub(crate) fn row_layout(
 fn struct_layout(
     rows: &[u32],
     members: &[u32],
+    entries: &[u64],
     sizes: &[u32; 256],
     alignments: &[u32; 256],
     kept: u32,
     row: u32,
 ) -> Layout
-    requires { ⌜ Layable (typeTable (now rows) (now members)) kept row (now sizes) (now alignments) ⌝ }
-    requires { ⌜ kindAt (typeTable (now rows) (now members)) row ≡ 7 ⌝ }
-    ensures { λ r. ⌜ r ≡ layoutOf (typeTable (now (rows .entry)) (now (members .entry))) row ⌝ }
+    requires { ⌜ Layable (typeTable (now rows) (now members) (now entries)) kept row (now sizes) (now alignments) ⌝ }
+    requires { ⌜ kindAt (typeTable (now rows) (now members) (now entries)) row ≡ 7 ⌝ }
+    ensures { λ r. ⌜ r ≡ layoutOf (typeTable (now (rows .entry)) (now (members .entry)) (now (entries .entry))) row ⌝ }
 {
     let mut next = table::a_at(rows, row as usize);
     let mut left = table::b_at(rows, row as usize);
@@ -91,7 +94,7 @@ fn struct_layout(
         let inner = table::row_of(members, next as usize);
         so_far = place(
             so_far,
-            inner_layout(rows, members, sizes, alignments, kept, inner),
+            inner_layout(rows, members, entries, sizes, alignments, kept, inner),
         );
         next += 1;
         left -= 1;

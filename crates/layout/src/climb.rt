@@ -25,18 +25,19 @@ enum Judged {
 fn judge(
     rows: &[u32],
     members: &[u32],
+    entries: &[u64],
     sizes: &[u32; 256],
     alignments: &[u32; 256],
     row: u32,
 ) -> Judged
-    requires { ⌜ KeptBelow (typeTable (now rows) (now members)) row (now sizes) (now alignments) ⌝ }
+    requires { ⌜ KeptBelow (typeTable (now rows) (now members) (now entries)) row (now sizes) (now alignments) ⌝ }
     requires { ⌜ length (now members) ≤ 2048 ⌝ }
-    ensures { λ r. ⌜ r ≡ judged (typeTable (now (rows .entry)) (now (members .entry))) row ⌝ }
+    ensures { λ r. ⌜ r ≡ judged (typeTable (now (rows .entry)) (now (members .entry)) (now (entries .entry))) row ⌝ }
 {
-    if !row_fits(rows, members, row) {
+    if !row_fits(rows, members, entries, row) {
         return Judged::Bad;
     }
-    let l = row_layout(rows, members, sizes, alignments, row, row);
+    let l = row_layout(rows, members, entries, sizes, alignments, row, row);
     if l.size <= 65528 {
         Judged::Laid(l)
     } else {
@@ -58,25 +59,26 @@ fn refused_at(row: u32) -> Soundness
 pub fn climb(
     rows: &[u32],
     members: &[u32],
+    entries: &[u64],
     sizes: &mut [u32; 256],
     alignments: &mut [u32; 256],
 ) -> Soundness
     requires { ⌜ Zeroed (now sizes) × Zeroed (now alignments) ⌝ }
-    ensures verdict { λ r. ⌜ verdictOf r ≡ soundness (typeTable (now (rows .entry)) (now (members .entry))) ⌝ }
+    ensures verdict { λ r. ⌜ verdictOf r ≡ soundness (typeTable (now (rows .entry)) (now (members .entry)) (now (entries .entry))) ⌝ }
     ensures sizes { λ _.
-        let t = typeTable (now (rows .entry)) (now (members .entry)) in
+        let t = typeTable (now (rows .entry)) (now (members .entry)) (now (entries .entry)) in
         ⌜ now (sizes .exit) ≡ givenIfSound t (keptSizes t) (now (sizes .entry)) ⌝ }
     ensures alignments { λ _.
-        let t = typeTable (now (rows .entry)) (now (members .entry)) in
+        let t = typeTable (now (rows .entry)) (now (members .entry)) (now (entries .entry)) in
         ⌜ now (alignments .exit) ≡ givenIfSound t (keptAlignments t) (now (alignments .entry)) ⌝ }
 {
-    if !lists_whole(rows, members) {
+    if !lists_whole(rows, members, entries) {
         return refused_at(256);
     }
     let count = rows.len() / 4;
     let mut row: u32 = 0;
     while (row as usize) < count {
-        let Judged::Laid(l) = judge(rows, members, sizes, alignments, row) else {
+        let Judged::Laid(l) = judge(rows, members, entries, sizes, alignments, row) else {
             *sizes = [0u32; 256];
             *alignments = [0u32; 256];
             return refused_at(row);

@@ -33,21 +33,22 @@ pub enum LayoutAnswer {
 pub fn prepare(
     rows: &[u32],
     members: &[u32],
+    entries: &[u64],
     sizes: &mut [u32; 256],
     alignments: &mut [u32; 256],
 ) -> Soundness
-    ensures verdict { λ r. ⌜ verdictOf r ≡ soundness (typeTable (now (rows .entry)) (now (members .entry))) ⌝ }
+    ensures verdict { λ r. ⌜ verdictOf r ≡ soundness (typeTable (now (rows .entry)) (now (members .entry)) (now (entries .entry))) ⌝ }
     ensures sizes { λ _.
-        let t = typeTable (now (rows .entry)) (now (members .entry)) in
+        let t = typeTable (now (rows .entry)) (now (members .entry)) (now (entries .entry)) in
         ⌜ now (sizes .exit) ≡ givenIfSound t (keptSizes t) (now (sizes .entry)) ⌝ }
     ensures alignments { λ _.
-        let t = typeTable (now (rows .entry)) (now (members .entry)) in
+        let t = typeTable (now (rows .entry)) (now (members .entry)) (now (entries .entry)) in
         ⌜ now (alignments .exit) ≡ givenIfSound t (keptAlignments t) (now (alignments .entry)) ⌝ }
-    ensures numbers { λ r. ⌜ verdictNumbers r ≡ numbersOf 0 nothing (soundness (typeTable (now (rows .entry)) (now (members .entry)))) ⌝ }
+    ensures numbers { λ r. ⌜ verdictNumbers r ≡ numbersOf 0 nothing (soundness (typeTable (now (rows .entry)) (now (members .entry)) (now (entries .entry)))) ⌝ }
 {
     let mut own_sizes = [0u32; 256];
     let mut own_alignments = [0u32; 256];
-    let verdict = climb(rows, members, &mut own_sizes, &mut own_alignments);
+    let verdict = climb(rows, members, entries, &mut own_sizes, &mut own_alignments);
     if let Soundness::Refused(fault) = verdict {
         return Soundness::Refused(fault);
     }
@@ -57,13 +58,13 @@ pub fn prepare(
 }
 
 // The layout of a row; 1, then 2 for a row that does not exist.
-pub fn layout_of(rows: &[u32], members: &[u32], row: u32) -> LayoutAnswer
-    ensures answer { λ r. ⌜ answerOf r ≡ layoutAnswer (typeTable (now (rows .entry)) (now (members .entry))) row ⌝ }
-    ensures numbers { λ r. ⌜ answerNumbers r ≡ numbersOf 2 laid (layoutAnswer (typeTable (now (rows .entry)) (now (members .entry))) row) ⌝ }
+pub fn layout_of(rows: &[u32], members: &[u32], entries: &[u64], row: u32) -> LayoutAnswer
+    ensures answer { λ r. ⌜ answerOf r ≡ layoutAnswer (typeTable (now (rows .entry)) (now (members .entry)) (now (entries .entry))) row ⌝ }
+    ensures numbers { λ r. ⌜ answerNumbers r ≡ numbersOf 2 laid (layoutAnswer (typeTable (now (rows .entry)) (now (members .entry)) (now (entries .entry))) row) ⌝ }
 {
     let mut sizes = [0u32; 256];
     let mut alignments = [0u32; 256];
-    let verdict = climb(rows, members, &mut sizes, &mut alignments);
+    let verdict = climb(rows, members, entries, &mut sizes, &mut alignments);
     if let Soundness::Refused(fault) = verdict {
         return LayoutAnswer::Refused(fault);
     }

@@ -61,26 +61,13 @@ pub(crate) fn array_layout(element: Layout, count: u32) -> Layout
     }
 }
 
-// Every kind but arrays and structs: its layout is the same under every type table with 8-byte envelopes, whatever the other
-// rows and numbers are.
-pub(crate) fn fixed_layout(kind: u32, a: u32) -> Layout
-    requires { ⌜ (kind ≡ 4 → ⊥) × (kind ≡ 7 → ⊥) ⌝ }
-    ensures { λ r. ⌜ ((t : TypeTable) → t .edition ≡ eightByteEnvelopes → (inner : ℕ → Layout) (b c : ℕ) →
+// Vectors, strings, boxes, tables and unions; other kinds have no size.
+fn record_layout(kind: u32) -> Layout
+    requires { ⌜ (kind ≡ 1 → ⊥) × (kind ≡ 2 → ⊥) × (kind ≡ 3 → ⊥) × (kind ≡ 4 → ⊥) × (kind ≡ 7 → ⊥) × (kind ≡ 11 → ⊥) × (kind ≡ 12 → ⊥) ⌝ }
+    ensures { λ r. ⌜ ((t : TypeTable) → t .edition ≡ eightByteEnvelopes → (inner : ℕ → Layout) (a b c : ℕ) →
         r ≡ layoutAs t inner (typeAs kind a b c)) ⌝ }
 {
     match kind {
-        1 => Layout {
-            size: 1,
-            alignment: 1,
-        },
-        2 => Layout {
-            size: a as usize,
-            alignment: a as usize,
-        },
-        3 => Layout {
-            size: 4,
-            alignment: 4,
-        },
         5 => Layout {
             size: 16,
             alignment: 8,
@@ -105,5 +92,37 @@ pub(crate) fn fixed_layout(kind: u32, a: u32) -> Layout
             size: 0,
             alignment: 1,
         },
+    }
+}
+
+// Every kind but arrays and structs: its layout is the same under every type table with 8-byte envelopes, whatever the other
+// rows and numbers are.
+pub(crate) fn fixed_layout(kind: u32, a: u32) -> Layout
+    requires { ⌜ (kind ≡ 4 → ⊥) × (kind ≡ 7 → ⊥) ⌝ }
+    ensures { λ r. ⌜ ((t : TypeTable) → t .edition ≡ eightByteEnvelopes → (inner : ℕ → Layout) (b c : ℕ) →
+        r ≡ layoutAs t inner (typeAs kind a b c)) ⌝ }
+{
+    match kind {
+        1 => Layout {
+            size: 1,
+            alignment: 1,
+        },
+        2 => Layout {
+            size: a as usize,
+            alignment: a as usize,
+        },
+        3 => Layout {
+            size: 4,
+            alignment: 4,
+        },
+        11 => Layout {
+            size: a as usize,
+            alignment: a as usize,
+        },
+        12 => Layout {
+            size: a as usize,
+            alignment: a as usize,
+        },
+        _ => record_layout(kind),
     }
 }

@@ -5,46 +5,48 @@ use mathlib.Core.Path.{_≡_, refl, ap, _∙_}
 use mathlib.Core.Bool.{Bool, true, false, _&&_}
 use Prim.Native.Nat.{ℕ, _+_, _%_, _≤_}
 use native.Mathlib.Omega.{arith}
-use borrow.Author.Tests.{le-leb, eqb-true, ltb-true, ltb-false}
-use lib.Dec.{eqb, leb, ltb}
+use borrow.Author.Tests.{le-leb, ltb-true, ltb-false}
+use lib.Dec.{leb, ltb}
 use lib.ListN.{length, List·getD-eq-default}
 use Rattle.rules.specs.declared.Layout.{Layout}
 use Rattle.rules.specs.Refusals.{Answer, accepted, refused, andThen}
-use Rattle.rules.specs.TypeTable.{TypeTable, rowCount, kindAt, number, none, typeOf}
+use Rattle.rules.specs.TypeTable.{TypeTable, rowCount, kindAt, FidlType, none, typeOf}
 use Rattle.rules.specs.Sizes.{layoutAs, layoutBelow, sizeOf}
-use Rattle.rules.specs.Sound.{listsWhole, soundness}
+use Rattle.rules.specs.Sound.{soundness}
 use Rattle.rules.specs.Trace.{objectList}
 use Rattle.rules.specs.Decode.{Message}
 use Rattle.rules.specs.Answers.{Reading, judged, requireRoom, readValues, readObjects, Lists, read}
-use Rattle.rules.proofs.Tests.{both}
 use Rattle.rules.proofs.Demands.{passed}
-use Rattle.rules.proofs.Amounts.{NumbersHaveBytes, few-numbers}
-use Rattle.layout.proofs.Rows.{sound-lists, layout-step}
+use Rattle.rules.proofs.Amounts.{HasWidth, of-number, of-enum, of-bits, NumbersHaveBytes, few-numbers}
+use Rattle.layout.proofs.Rows.{lists-whole, sound-lists, layout-step}
 use Rattle.layout.proofs.Keeping.{sound-bounded}
 use Rattle.listing.specs.Listing.{listsOf}
 
 -- ---- a sound table's numbers have a byte at least
 
 -- a row in use has a size, and a number's is its width;
-width-some : (t : TypeTable) → soundness t ≡ accepted tt → (row width : ℕ) → typeOf t row ≡ number width → ltb row (rowCount t) ≡ true → 1 ≤ width
+width-size : (t : TypeTable) (inner : ℕ → Layout) {type : FidlType} {width : ℕ} → HasWidth type width → layoutAs t inner type .size ≡ width
 unfolding layoutAs
+width-size t inner of-number = refl
+width-size t inner of-enum = refl
+width-size t inner of-bits = refl
+
+width-some : (t : TypeTable) → soundness t ≡ accepted tt → (row width : ℕ) → HasWidth (typeOf t row) width → ltb row (rowCount t) ≡ true → 1 ≤ width
 width-some t sound row width is test =
-    let size : sizeOf t row ≡ width = ap (λ (l : Layout). l .size) (layout-step t row ∙ ap (layoutAs t (layoutBelow t row)) is) in
+    let size : sizeOf t row ≡ width = ap (λ (l : Layout). l .size) (layout-step t row) ∙ width-size t (layoutBelow t row) is in
     omega (arith, sound-bounded t sound row (ltb-true row (rowCount t) test) .some)
 
 -- a row past them all has no kind.
-whole-rows : (t : TypeTable) → listsWhole t ≡ true → length (t .rows) % 4 ≡ 0
-whole-rows t e =
-    let n = length (t .rows) in let m = length (t .members) in
-    let lists = both (eqb (n % 4) 0 && leb 4 n && leb n 1024 && eqb (m % 2) 0) (leb m 2048) e .0 in
-    let rows = both (eqb (n % 4) 0 && leb 4 n && leb n 1024) (eqb (m % 2) 0) lists .0 in
-    eqb-true (n % 4) 0 (both (eqb (n % 4) 0) (leb 4 n) (both (eqb (n % 4) 0 && leb 4 n) (leb n 1024) rows .0) .0)
-
 none-past : (t : TypeTable) → soundness t ≡ accepted tt → (row : ℕ) → rowCount t ≤ row → typeOf t row ≡ none
 unfolding typeOf
 none-past t sound row past =
-    let kind : kindAt t row ≡ 0 = List·getD-eq-default (t .rows) 0 (omega (arith, whole-rows t (sound-lists t sound))) in
+    let kind : kindAt t row ≡ 0 = List·getD-eq-default (t .rows) 0 (omega (arith, lists-whole t (sound-lists t sound) .fours)) in
     rw kind
+
+some-type : {type : FidlType} {width : ℕ} → HasWidth type width → type ≡ none → ⊥
+some-type of-number e = let z : _≡_ {A = ℕ} 0 1 = cc in omega arith
+some-type of-enum e = let z : _≡_ {A = ℕ} 0 1 = cc in omega arith
+some-type of-bits e = let z : _≡_ {A = ℕ} 0 1 = cc in omega arith
 
 numbers-have-bytes : (t : TypeTable) → soundness t ≡ accepted tt → NumbersHaveBytes t
 numbers-have-bytes t sound row width is = go (ltb row (rowCount t)) refl
@@ -52,8 +54,7 @@ numbers-have-bytes t sound row width is = go (ltb row (rowCount t)) refl
     go : (test : Bool) → ltb row (rowCount t) ≡ test → 1 ≤ width
     go true used = width-some t sound row width is used
     go false past =
-        let no-type = none-past t sound row (ltb-false row (rowCount t) past) in
-        let z : _≡_ {A = ℕ} 0 1 = cc in absurd (omega arith)
+        absurd (some-type is (none-past t sound row (ltb-false row (rowCount t) past)))
 
 -- ---- room that is enough
 

@@ -92,7 +92,17 @@ pub fn listing(message: &[u8], out: &mut [u8]) -> usize
     }
     let mut values = values_room();
     let mut objects = objects_room();
-    match reader::read(&ROWS, &MEMBERS, ROOT, message, 0, &mut values, &mut objects) {
+    let no_entries = [0u64; 0];
+    match reader::read(
+        &ROWS,
+        &MEMBERS,
+        &no_entries,
+        ROOT,
+        message,
+        0,
+        &mut values,
+        &mut objects,
+    ) {
         Reading::Refused(f) => put_refusal(out, f),
         Reading::Accepted(lengths) => {
             let object_numbers = lengths.objects;

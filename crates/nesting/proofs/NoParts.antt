@@ -23,16 +23,20 @@ array-left k e n = eqb-true k 4 (go (eqb k 4) (eqb k 7) e (ne-eqb k 7 n))
     go true b h f = refl
     go false b h f = sym f ∙ h
 
+neither : (k m n : ℕ) → (eqb k m || eqb k n) ≡ false → (k ≡ m → ⊥) × (k ≡ n → ⊥)
+neither k m n q = let b = go (eqb k m) (eqb k n) q in (eqb-false k m (b .0), eqb-false k n (b .1))
+  where
+    go : (a b : Bool) → (a || b) ≡ false → (a ≡ false) × (b ≡ false)
+    go true b h = absurd (let z : _≡_ {A = ℕ} 0 1 = cc in omega arith)
+    go false b h = (refl, h)
+
 -- None of the kinds that stand in line.
 pub outside-left : (t : TypeTable) (row : ℕ) {k : ℕ} → k ≡ kindAt t row → (k ≡ 1 → ⊥) → (k ≡ 2 → ⊥) → (k ≡ 3 → ⊥) → (eqb k 4 || eqb k 7) ≡ false → (k ≡ 6 → ⊥)
-    → Outside (kindAt t row)
-outside-left t row {k} e n₁ n₂ n₃ q n₆ =
-    let b = neither (eqb k 4) (eqb k 7) q in
-    (λ z. n₁ (e ∙ z), λ z. n₂ (e ∙ z), λ z. n₃ (e ∙ z), λ z. eqb-false k 4 (b .0) (e ∙ z), λ z. n₆ (e ∙ z), λ z. eqb-false k 7 (b .1) (e ∙ z))
-  where
-    neither : (a b : Bool) → (a || b) ≡ false → (a ≡ false) × (b ≡ false)
-    neither true b h = absurd (let z : _≡_ {A = ℕ} 0 1 = cc in omega arith)
-    neither false b h = (refl, h)
+    → (eqb k 11 || eqb k 12) ≡ false → Outside (kindAt t row)
+outside-left t row {k} e n₁ n₂ n₃ parts n₆ strict =
+    let p = neither k 4 7 parts in
+    let s = neither k 11 12 strict in
+    (λ z. n₁ (e ∙ z), λ z. n₂ (e ∙ z), λ z. n₃ (e ∙ z), λ z. p .0 (e ∙ z), λ z. n₆ (e ∙ z), λ z. p .1 (e ∙ z), λ z. s .0 (e ∙ z), λ z. s .1 (e ∙ z))
 
 -- ---- no parts
 

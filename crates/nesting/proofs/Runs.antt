@@ -55,3 +55,10 @@ module _ {A : Algebra} {D : Doing A} {size : ℕ} {part : A .Part} {grow at : �
 
   pub run-stopped : {f : Fault} → w ≡ D .refused f → D .Did grow at l l″ c (D .refused f) whole
   run-stopped z = run-refused r h (rw z at q)
+
+-- A run of one is the part itself.
+pub run-one : {A : Algebra} (D : Doing A) {size at : ℕ} {part : A .Part} {l l′ : D .Lent} {c : D .Cursor} {w : D .Answer}
+    → D .Did (1 * size) at l l′ c w (A .elements size (λ k. part) 0 1) → D .Did size at l l′ c w part
+run-one {A} D {size} {part = part} did =
+    let once : 1 * size ≡ size = omega arith in
+    rw (once, A .laws .next-element size (λ k. part) 0 0, A .laws .no-elements size (λ k. part) 1, A .laws .nothing-last size part) at did

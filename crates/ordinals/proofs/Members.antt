@@ -17,6 +17,7 @@ use Rattle.ordinals.specs.declared.Ordinal.the-variants.{Known, Unknown}
 use Rattle.ordinals.specs.Ordinals.{ordinalIs, halved, Rising, OrdinalFits}
 use Rattle.layout.specs.Ready.{Ready, Outside}
 use Rattle.layout.proofs.ByKind.{fits-kind}
+use Rattle.layout.proofs.Rising.{Stepwise, none, more, pairwise}
 use Rattle.ordinals.proofs.Ordinals.{halved-content}
 
 -- ---- members that rise
@@ -30,27 +31,11 @@ first-member t first count before e =
     let here = both (ltb before (ordinalAt t first)) (ltb (rowOf t first) (rowCount t)) (parts .0) in
     (ltb-true _ _ (here .0), ltb-true _ _ (here .1), parts .1)
 
-above : (t : TypeTable) (first count before : ℕ) → risingMembers t first count before ≡ true → (i : ℕ) → i < count → before < ordinalAt t (first + i)
-above t first zero before e i h = absurd (omega arith)
-above t first (suc count) before e zero h =
-    let s : first + 0 ≡ first = omega arith in
-    rw s (first-member t first count before e .0)
-above t first (suc count) before e (suc i) h =
+stepwise : (t : TypeTable) (first count before : ℕ) → risingMembers t first count before ≡ true → Stepwise (λ k. ordinalAt t k) first count (suc before)
+stepwise t first zero before e = none
+stepwise t first (suc count) before e =
     let p = first-member t first count before e in
-    let s : first + suc i ≡ suc first + i = omega arith in
-    rw s (omega (arith, p .0, above t (suc first) count (ordinalAt t first) (p .2) i (omega arith)))
-
-rise : (t : TypeTable) (first count before : ℕ) → risingMembers t first count before ≡ true → (i j : ℕ) → i < j → j < count → ordinalAt t (first + i) < ordinalAt t (first + j)
-rise t first zero before e i j h k = absurd (omega arith)
-rise t first (suc count) before e i zero h k = absurd (omega arith)
-rise t first (suc count) before e zero (suc j) h k =
-    let s : first + 0 ≡ first = omega arith in
-    let r : first + suc j ≡ suc first + j = omega arith in
-    rw (s, r) (above t (suc first) count (ordinalAt t first) (first-member t first count before e .2) j (omega arith))
-rise t first (suc count) before e (suc i) (suc j) h k =
-    let s : first + suc i ≡ suc first + i = omega arith in
-    let r : first + suc j ≡ suc first + j = omega arith in
-    rw (s, r) (rise t (suc first) count (ordinalAt t first) (first-member t first count before e .2) i j (omega arith) (omega arith))
+    more (p .0) (stepwise t (suc first) count (ordinalAt t first) (p .2))
 
 content-in-use : (t : TypeTable) (first count before ordinal : ℕ) {row : ℕ} → risingMembers t first count before ≡ true → contentOf t first count ordinal ≡ known row → row < rowCount t
 unfolding contentOf
@@ -71,7 +56,7 @@ pub record MembersRise (t : TypeTable) (first count : ℕ) : Type 0 where
 
 module _ {t : TypeTable} {first count : ℕ} (m : MembersRise t first count) where
   pub members-rise : Rising (t .members) first count
-  members-rise = rise t first count 0 (m .all)
+  members-rise = pairwise (λ k. ordinalAt t k) (stepwise t first count 0 (m .all))
 
   -- What the search by halves finds is what the rules say,
   pub ordinal-content : (ordinal : ℕ) (what : Ordinal) → ordinalIs what ≡ halved (t .members) ordinal first count → ordinalIs what ≡ contentOf t first count ordinal
@@ -142,6 +127,8 @@ union-else {t} {row = row} {k} ready e o n₅ n₈ n₉ = go (eqb k 10) refl
           not-box = n₈;
           not-table = n₉;
           not-union = eqb-false k 10 q;
+          not-enum = λ z. o .6 (sym e ∙ z);
+          not-bits = λ z. o .7 (sym e ∙ z);
         } in
         let fits = fits-kind t row (ready .sound) (ready .in-use) (sym e) in
         let none : false ≡ true = rw (other-kind k (aAt t row) (bAt t row) (cAt t row) other) at fits in

@@ -9,6 +9,7 @@ use borrow.Author.Tests.{eq-eqb, ne-eqb, eqb-true, eqb-false, ltb-true, ltb-fals
 use lib.Dec.{ltb, eqb}
 use Rattle.rules.specs.TypeTable.{ordinalIn, TypeTable, ordinalAt, rowOf, known, unknown, contentOf}
 use Rattle.ordinals.specs.Ordinals.{halvedIn, halved, Rising}
+use Rattle.layout.proofs.Rising.{rises, not-falls}
 use Rattle.ordinals.proofs.Halving.{halved-done, halved-here, halved-up, halved-down}
 
 -- ---- any members
@@ -74,21 +75,6 @@ narrowed-none t {first} {count} {ordinal} {low} s h =
     apart k i l e false q = let n : low ≤ k = ltb-false k low q in omega (arith, s .larger k (omega arith) l)
 
 module _ (t : TypeTable) (first count : ℕ) (rising : Rising (t .members) first count) where
-  rises : (j k : ℕ) → first ≤ j → j < k → k < first + count → ordinalAt t j < ordinalAt t k
-  rises j k h i l =
-      let a : first + (j - first) ≡ j = omega arith in
-      let b : first + (k - first) ≡ k = omega arith in
-      rw (a, b) at (rising (j - first) (k - first) (omega arith) (omega arith))
-
-  not-falls : (j k : ℕ) → first ≤ j → j ≤ k → k < first + count → ordinalAt t j ≤ ordinalAt t k
-  not-falls j k h i l = go (eqb j k) refl
-    where
-      go : (b : Bool) → eqb j k ≡ b → ordinalAt t j ≤ ordinalAt t k
-      go true q = let e : j ≡ k = eqb-true j k q in rw e (omega arith)
-      go false q =
-          let n : (j ≡ k → ⊥) = eqb-false j k q in
-          omega (arith, rises j k h (omega (arith, n)) l)
-
   module _ {ordinal low high : ℕ} (s : Narrowed (t .members) first count ordinal low high) (left : low < high) where
     -- The middle member is the one;
     narrowed-found : ordinalAt t ((low + high) / 2) ≡ ordinal
@@ -96,14 +82,14 @@ module _ (t : TypeTable) (first count : ℕ) (rising : Rising (t .members) first
     narrowed-found q =
         let middle : ℕ = (low + high) / 2 in
         sym (content-first t first count ordinal middle (omega (arith, s .from)) (omega (arith, s .upto))
-        (λ j i g z. omega (arith, rises j middle i g (omega (arith, s .upto)))) (omega arith))
+        (λ j i g z. omega (arith, rises (λ k. ordinalAt t k) first count rising j middle i g (omega (arith, s .upto)))) (omega arith))
 
     -- its ordinal is smaller;
     narrowed-up : ordinalAt t ((low + high) / 2) < ordinal → Narrowed (t .members) first count ordinal ((low + high) / 2 + 1) high
     narrowed-up q = record {
       from = omega (arith, s .from);
       upto = s .upto;
-      smaller = λ k h l. omega (arith, not-falls k ((low + high) / 2) h (omega arith) (omega (arith, s .upto)));
+      smaller = λ k h l. omega (arith, not-falls (λ k. ordinalAt t k) first count rising k ((low + high) / 2) h (omega arith) (omega (arith, s .upto)));
       larger = s .larger;
     }
 
@@ -113,7 +99,7 @@ module _ (t : TypeTable) (first count : ℕ) (rising : Rising (t .members) first
       from = s .from;
       upto = omega (arith, s .upto);
       smaller = s .smaller;
-      larger = λ k h l. omega (arith, n, not-falls ((low + high) / 2) k (omega (arith, s .from)) h l);
+      larger = λ k h l. omega (arith, n, not-falls (λ k. ordinalAt t k) first count rising ((low + high) / 2) k (omega (arith, s .from)) h l);
     }
 
   module _ (ordinal : ℕ) where

@@ -10,7 +10,7 @@ use lib.ListN.{getD}
 use Rattle.rules.specs.declared.Fault.{Fault}
 use Rattle.rules.specs.Sizes.{Field, field}
 use Rattle.plans.specs.Plans.{widthSize, widthLayout, partsSize, partsFrom, Runnable}
-use Rattle.layout.specs.Ready.{widthAllowed}
+use Rattle.rules.specs.Sound.{widthAllowed}
 use Rattle.nesting.proofs.Items.{itemsOf, sizeOfItems, fields-size}
 use Rattle.plans.proofs.Plans.{parts-next, parts-none}
 use Rattle.nesting.proofs.Algebra.{Algebra, Doing}

@@ -14,12 +14,12 @@ use Rattle.rules.specs.Refusals.{accepted, if_then_else_}
 use Rattle.rules.specs.Bytes.{zeros}
 use Rattle.rules.specs.TypeTable.{TypeTable, rowCount, kindAt, aAt, bAt, memberRows}
 use Rattle.rules.specs.Sizes.{Field, field, layoutOf, sizeOf, fieldsOf, fieldsSize}
-use Rattle.rules.specs.Sound.{soundness}
+use Rattle.rules.specs.Sound.{soundness, widthAllowed}
 use Rattle.layout.specs.Answers.{keptAlignments}
 use Rattle.rules.proofs.Tests.{both}
 use Rattle.plans.specs.declared.Plan.{Plan}
 use Rattle.nesting.specs.Nesting.{hasParts, nextPart, nextPlace}
-use Rattle.layout.specs.Ready.{Ready, widthAllowed}
+use Rattle.layout.specs.Ready.{Ready}
 use Rattle.plans.specs.Plans.{flatWidth, widthSize, partsSize, partsFrom, partsOf, Runnable, allFlat, after, flatFrom, planOf, widthIn, fillIn, column, planAs}
 use Rattle.layout.proofs.ByKind.{size-bool, size-number, number-width, width-positive}
 use Rattle.nesting.proofs.Left.{fieldsLeft, no-members-left}

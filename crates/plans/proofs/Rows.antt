@@ -23,6 +23,7 @@ use Rattle.layout.proofs.Readiness.{row-size}
 use Rattle.nesting.proofs.Starts.{Parts, members, elements, parts-of, startOf, start-size, struct-fields, array-fields, members-below}
 use Rattle.plans.proofs.Plans.{Flat, a-bool, a-number, AllFlat, none, more, FlatRow, bool-row, struct-row, flat-size, flat-runnable, plan-few, plan-flat, flat-row-size}
 use Rattle.nesting.proofs.Algebra.{Algebra, Doing}
+use Rattle.nesting.proofs.Runs.{run-one}
 use Rattle.nesting.proofs.Work.{run, run-copies, run-alone, WorkLeft, work-start, work-into}
 
 -- For a row a side does `inner`; for a bool, as the width 0, or a number of a width, `width`.
@@ -93,5 +94,4 @@ module _ {t : TypeTable} {sizes alignments : List ℕ} {depth row : ℕ} (ready 
     pub alone-done : D .Ask (sizeOf t row) at c → (D .Ask (1 * size) at c → D .Did (1 * size) at l l′ c r (A .elements size (λ k. part) 0 1)) → D .Did (sizeOf t row) at l l′ c r (inner row)
     alone-done a did =
         let once : 1 * sizeOf t row ≡ sizeOf t row = omega arith in
-        rw (once, A .laws .next-element (sizeOf t row) (λ k. inner row) 0 0, A .laws .no-elements (sizeOf t row) (λ k. inner row) 1, A .laws .nothing-last (sizeOf t row) (inner row)) at
-        (plan-done 1 (rw once a) did)
+        run-one D (plan-done 1 (rw once a) did)

@@ -13,7 +13,7 @@ use Rattle.rules.specs.Sizes.{Field, field, fieldsSize}
 use Rattle.nesting.specs.declared.Level.{Level}
 use Rattle.plans.specs.declared.Plan.{Plan}
 use Rattle.nesting.specs.Nesting.{nextPart, nextPlace}
-use Rattle.layout.specs.Ready.{widthAllowed}
+use Rattle.rules.specs.Sound.{widthAllowed}
 
 -- The width of a row's value: a number's own, 0 of a bool; 9, which no number has, of any other.
 abbrev pub flatWidth : (rows : List ℕ) (row : ℕ) → ℕ

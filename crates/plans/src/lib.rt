@@ -17,15 +17,14 @@ pub struct Plan {
 
 // The width of a row's value in a plan; 9 where a plan can't have it.
 fn flat_width(rows: &[u32], row: usize) -> u32
-    requires { ⌜ row < 4294967296 ⌝ }
     ensures { λ r. ⌜ r ≡ flatWidth (now (rows .entry)) row ⌝ }
 {
-    let kind = words::number_at(rows, row * 4);
+    let kind = table::kind_at(rows, row);
     if kind == 1 {
         return 0;
     }
     if kind == 2 {
-        return words::number_at(rows, row * 4 + 1);
+        return table::a_at(rows, row);
     }
     9
 }
@@ -104,7 +103,7 @@ pub fn plan_of(rows: &[u32], members: &[u32], alignments: &[u32; 256], row: usiz
     if 256 <= row {
         return no_plan();
     }
-    let kind = words::number_at(rows, row * 4);
+    let kind = table::kind_at(rows, row);
     if kind == 1 {
         return Plan {
             count: 1,
@@ -112,7 +111,7 @@ pub fn plan_of(rows: &[u32], members: &[u32], alignments: &[u32; 256], row: usiz
             fills: [0; 16],
         };
     }
-    let count = words::number_at(rows, row * 4 + 2) as usize;
+    let count = table::b_at(rows, row) as usize;
     if (kind == 7) & (count <= 16) {
         return flat_members(rows, members, alignments, row, count);
     }

@@ -45,13 +45,14 @@ fn refused(f: Fault, results: usize, answer: &mut [u64]) -> u32
 pub extern "C" fn ratlinery_layout(
     rows: &[u32],
     members: &[u32],
+    entries: &[u64],
     row: u32,
     answer: &mut [u64],
 ) -> u32
-    ensures number { λ r. ⌜ r ≡ number (Rules.layoutAnswer (typeTable (now (rows .entry)) (now (members .entry))) row) ⌝ }
-    ensures answer { λ _. ⌜ now (answer .exit) ≡ sets (now (answer .entry)) 0 (told 2 laid (Rules.layoutAnswer (typeTable (now (rows .entry)) (now (members .entry))) row)) ⌝ }
+    ensures number { λ r. ⌜ r ≡ number (Rules.layoutAnswer (typeTable (now (rows .entry)) (now (members .entry)) (now (entries .entry))) row) ⌝ }
+    ensures answer { λ _. ⌜ now (answer .exit) ≡ sets (now (answer .entry)) 0 (told 2 laid (Rules.layoutAnswer (typeTable (now (rows .entry)) (now (members .entry)) (now (entries .entry))) row)) ⌝ }
 {
-    match layout::layout_of(rows, members, row) {
+    match layout::layout_of(rows, members, entries, row) {
         LayoutAnswer::Refused(f) => refused(f, 2, answer),
         LayoutAnswer::Laid(l) => {
             words::put_value(answer, 0, 0);
@@ -66,15 +67,16 @@ pub extern "C" fn ratlinery_layout(
 pub extern "C" fn ratlinery_check(
     rows: &[u32],
     members: &[u32],
+    entries: &[u64],
     root: u32,
     message: &[u8],
     handles: u64,
     answer: &mut [u64],
 ) -> u32
-    ensures number { λ r. ⌜ r ≡ number (Rules.check (Doing.message (typeTable (now (rows .entry)) (now (members .entry))) (now (message .entry)) handles) root) ⌝ }
-    ensures answer { λ _. ⌜ now (answer .exit) ≡ sets (now (answer .entry)) 0 (told 0 nothing (Rules.check (Doing.message (typeTable (now (rows .entry)) (now (members .entry))) (now (message .entry)) handles) root)) ⌝ }
+    ensures number { λ r. ⌜ r ≡ number (Rules.check (Doing.message (typeTable (now (rows .entry)) (now (members .entry)) (now (entries .entry))) (now (message .entry)) handles) root) ⌝ }
+    ensures answer { λ _. ⌜ now (answer .exit) ≡ sets (now (answer .entry)) 0 (told 0 nothing (Rules.check (Doing.message (typeTable (now (rows .entry)) (now (members .entry)) (now (entries .entry))) (now (message .entry)) handles) root)) ⌝ }
 {
-    match reader::check(rows, members, root, message, handles) {
+    match reader::check(rows, members, entries, root, message, handles) {
         Verdict::Refused(f) => refused(f, 0, answer),
         Verdict::Accepted => {
             words::put_value(answer, 0, 0);
@@ -87,6 +89,7 @@ pub extern "C" fn ratlinery_check(
 pub extern "C" fn ratlinery_read(
     rows: &[u32],
     members: &[u32],
+    entries: &[u64],
     root: u32,
     message: &[u8],
     handles: u64,
@@ -94,12 +97,21 @@ pub extern "C" fn ratlinery_read(
     objects: &mut [u32],
     answer: &mut [u64],
 ) -> u32
-    ensures number { λ r. ⌜ r ≡ number (Rules.read (Doing.message (typeTable (now (rows .entry)) (now (members .entry))) (now (message .entry)) handles) root (length (now (values .entry))) (length (now (objects .entry)))) ⌝ }
-    ensures values { λ _. ⌜ now (values .exit) ≡ lentAfter (valuesIn (Rules.read (Doing.message (typeTable (now (rows .entry)) (now (members .entry))) (now (message .entry)) handles) root (length (now (values .entry))) (length (now (objects .entry))))) (now (values .entry)) ⌝ }
-    ensures objects { λ _. ⌜ now (objects .exit) ≡ lentAfter (objectsIn (Rules.read (Doing.message (typeTable (now (rows .entry)) (now (members .entry))) (now (message .entry)) handles) root (length (now (values .entry))) (length (now (objects .entry))))) (now (objects .entry)) ⌝ }
-    ensures answer { λ _. ⌜ now (answer .exit) ≡ sets (now (answer .entry)) 0 (told 2 bothCounted (Rules.read (Doing.message (typeTable (now (rows .entry)) (now (members .entry))) (now (message .entry)) handles) root (length (now (values .entry))) (length (now (objects .entry))))) ⌝ }
+    ensures number { λ r. ⌜ r ≡ number (Rules.read (Doing.message (typeTable (now (rows .entry)) (now (members .entry)) (now (entries .entry))) (now (message .entry)) handles) root (length (now (values .entry))) (length (now (objects .entry)))) ⌝ }
+    ensures values { λ _. ⌜ now (values .exit) ≡ lentAfter (valuesIn (Rules.read (Doing.message (typeTable (now (rows .entry)) (now (members .entry)) (now (entries .entry))) (now (message .entry)) handles) root (length (now (values .entry))) (length (now (objects .entry))))) (now (values .entry)) ⌝ }
+    ensures objects { λ _. ⌜ now (objects .exit) ≡ lentAfter (objectsIn (Rules.read (Doing.message (typeTable (now (rows .entry)) (now (members .entry)) (now (entries .entry))) (now (message .entry)) handles) root (length (now (values .entry))) (length (now (objects .entry))))) (now (objects .entry)) ⌝ }
+    ensures answer { λ _. ⌜ now (answer .exit) ≡ sets (now (answer .entry)) 0 (told 2 bothCounted (Rules.read (Doing.message (typeTable (now (rows .entry)) (now (members .entry)) (now (entries .entry))) (now (message .entry)) handles) root (length (now (values .entry))) (length (now (objects .entry))))) ⌝ }
 {
-    match reader::read(rows, members, root, message, handles, values, objects) {
+    match reader::read(
+        rows,
+        members,
+        entries,
+        root,
+        message,
+        handles,
+        values,
+        objects,
+    ) {
         Reading::Refused(f) => refused(f, 2, answer),
         Reading::Accepted(lengths) => {
             words::put_value(answer, 0, 0);
@@ -129,18 +141,19 @@ fn given(given: Given, answer: &mut [u64]) -> u32
 pub extern "C" fn ratlinery_read_values(
     rows: &[u32],
     members: &[u32],
+    entries: &[u64],
     root: u32,
     message: &[u8],
     handles: u64,
     values: &mut [u64],
     answer: &mut [u64],
 ) -> u32
-    ensures number { λ r. ⌜ r ≡ number (Rules.readValues (Doing.message (typeTable (now (rows .entry)) (now (members .entry))) (now (message .entry)) handles) root (length (now (values .entry)))) ⌝ }
-    ensures values { λ _. ⌜ now (values .exit) ≡ lentAfter (Rules.readValues (Doing.message (typeTable (now (rows .entry)) (now (members .entry))) (now (message .entry)) handles) root (length (now (values .entry)))) (now (values .entry)) ⌝ }
-    ensures answer { λ _. ⌜ now (answer .exit) ≡ sets (now (answer .entry)) 0 (told 1 counted (Rules.readValues (Doing.message (typeTable (now (rows .entry)) (now (members .entry))) (now (message .entry)) handles) root (length (now (values .entry))))) ⌝ }
+    ensures number { λ r. ⌜ r ≡ number (Rules.readValues (Doing.message (typeTable (now (rows .entry)) (now (members .entry)) (now (entries .entry))) (now (message .entry)) handles) root (length (now (values .entry)))) ⌝ }
+    ensures values { λ _. ⌜ now (values .exit) ≡ lentAfter (Rules.readValues (Doing.message (typeTable (now (rows .entry)) (now (members .entry)) (now (entries .entry))) (now (message .entry)) handles) root (length (now (values .entry)))) (now (values .entry)) ⌝ }
+    ensures answer { λ _. ⌜ now (answer .exit) ≡ sets (now (answer .entry)) 0 (told 1 counted (Rules.readValues (Doing.message (typeTable (now (rows .entry)) (now (members .entry)) (now (entries .entry))) (now (message .entry)) handles) root (length (now (values .entry))))) ⌝ }
 {
     given(
-        reader::read_values(rows, members, root, message, handles, values),
+        reader::read_values(rows, members, entries, root, message, handles, values),
         answer,
     )
 }
@@ -149,18 +162,19 @@ pub extern "C" fn ratlinery_read_values(
 pub extern "C" fn ratlinery_read_objects(
     rows: &[u32],
     members: &[u32],
+    entries: &[u64],
     root: u32,
     message: &[u8],
     handles: u64,
     objects: &mut [u32],
     answer: &mut [u64],
 ) -> u32
-    ensures number { λ r. ⌜ r ≡ number (Rules.readObjects (Doing.message (typeTable (now (rows .entry)) (now (members .entry))) (now (message .entry)) handles) root (length (now (objects .entry)))) ⌝ }
-    ensures objects { λ _. ⌜ now (objects .exit) ≡ lentAfter (Rules.readObjects (Doing.message (typeTable (now (rows .entry)) (now (members .entry))) (now (message .entry)) handles) root (length (now (objects .entry)))) (now (objects .entry)) ⌝ }
-    ensures answer { λ _. ⌜ now (answer .exit) ≡ sets (now (answer .entry)) 0 (told 1 counted (Rules.readObjects (Doing.message (typeTable (now (rows .entry)) (now (members .entry))) (now (message .entry)) handles) root (length (now (objects .entry))))) ⌝ }
+    ensures number { λ r. ⌜ r ≡ number (Rules.readObjects (Doing.message (typeTable (now (rows .entry)) (now (members .entry)) (now (entries .entry))) (now (message .entry)) handles) root (length (now (objects .entry)))) ⌝ }
+    ensures objects { λ _. ⌜ now (objects .exit) ≡ lentAfter (Rules.readObjects (Doing.message (typeTable (now (rows .entry)) (now (members .entry)) (now (entries .entry))) (now (message .entry)) handles) root (length (now (objects .entry)))) (now (objects .entry)) ⌝ }
+    ensures answer { λ _. ⌜ now (answer .exit) ≡ sets (now (answer .entry)) 0 (told 1 counted (Rules.readObjects (Doing.message (typeTable (now (rows .entry)) (now (members .entry)) (now (entries .entry))) (now (message .entry)) handles) root (length (now (objects .entry))))) ⌝ }
 {
     given(
-        reader::read_objects(rows, members, root, message, handles, objects),
+        reader::read_objects(rows, members, entries, root, message, handles, objects),
         answer,
     )
 }
@@ -169,16 +183,17 @@ pub extern "C" fn ratlinery_read_objects(
 pub extern "C" fn ratlinery_write(
     rows: &[u32],
     members: &[u32],
+    entries: &[u64],
     root: u32,
     values: &[u64],
     out: &mut [u8],
     answer: &mut [u64],
 ) -> u32
-    ensures number { λ r. ⌜ r ≡ number (Rules.write (typeTable (now (rows .entry)) (now (members .entry))) root (now (values .entry)) (length (now (out .entry)))) ⌝ }
-    ensures out { λ _. ⌜ now (out .exit) ≡ Rules.outputAfter (Rules.write (typeTable (now (rows .entry)) (now (members .entry))) root (now (values .entry)) (length (now (out .entry)))) (now (out .entry)) ⌝ }
-    ensures answer { λ _. ⌜ now (answer .exit) ≡ sets (now (answer .entry)) 0 (told 2 sized (Rules.write (typeTable (now (rows .entry)) (now (members .entry))) root (now (values .entry)) (length (now (out .entry))))) ⌝ }
+    ensures number { λ r. ⌜ r ≡ number (Rules.write (typeTable (now (rows .entry)) (now (members .entry)) (now (entries .entry))) root (now (values .entry)) (length (now (out .entry)))) ⌝ }
+    ensures out { λ _. ⌜ now (out .exit) ≡ Rules.outputAfter (Rules.write (typeTable (now (rows .entry)) (now (members .entry)) (now (entries .entry))) root (now (values .entry)) (length (now (out .entry)))) (now (out .entry)) ⌝ }
+    ensures answer { λ _. ⌜ now (answer .exit) ≡ sets (now (answer .entry)) 0 (told 2 sized (Rules.write (typeTable (now (rows .entry)) (now (members .entry)) (now (entries .entry))) root (now (values .entry)) (length (now (out .entry))))) ⌝ }
 {
-    match writer::write(rows, members, root, values, out) {
+    match writer::write(rows, members, entries, root, values, out) {
         Written::Refused(f) => refused(f, 2, answer),
         Written::Accepted(sizes) => {
             words::put_value(answer, 0, 0);

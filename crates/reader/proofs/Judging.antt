@@ -68,13 +68,13 @@ before-passed m root e =
     go (refused k) allowed short few f g h q = absurd (let w : _≡_ {A = ℕ} 0 1 = cc in omega arith)
 
 -- Then the message may be walked.
-walkable : (rows members bytes : List ℕ) (root handles : ℕ) (sizes alignments : List ℕ) {sizes′ alignments′ : List ℕ}
-    → before (message (typeTable rows members) bytes handles) root ≡ accepted tt
-    → sizes′ ≡ givenIfSound (typeTable rows members) (keptSizes (typeTable rows members)) sizes
-    → alignments′ ≡ givenIfSound (typeTable rows members) (keptAlignments (typeTable rows members)) alignments
-    → Walkable (typeTable rows members) bytes root handles sizes′ alignments′
-walkable rows members bytes root handles sizes alignments e s a =
-    let t = typeTable rows members in
+walkable : (rows members entries bytes : List ℕ) (root handles : ℕ) (sizes alignments : List ℕ) {sizes′ alignments′ : List ℕ}
+    → before (message (typeTable rows members entries) bytes handles) root ≡ accepted tt
+    → sizes′ ≡ givenIfSound (typeTable rows members entries) (keptSizes (typeTable rows members entries)) sizes
+    → alignments′ ≡ givenIfSound (typeTable rows members entries) (keptAlignments (typeTable rows members entries)) alignments
+    → Walkable (typeTable rows members entries) bytes root handles sizes′ alignments′
+walkable rows members entries bytes root handles sizes alignments e s a =
+    let t = typeTable rows members entries in
     let p = before-passed (message t bytes handles) root e in
     record {
       ready = record {
@@ -90,28 +90,28 @@ walkable rows members bytes root handles sizes alignments e s a =
     }
 
 -- What the code tested is what the rules test.
-tested-as : (rows members bytes : List ℕ) (root handles : ℕ) {sound : Answer (Unit {0})} → sound ≡ soundness (typeTable rows members)
-    → (r : Verdict) → BeforeWalk sound rows root (length bytes) handles r → verdictOf r ≡ before (message (typeTable rows members) bytes handles) root
-tested-as rows members bytes root handles e r tested = tested (typeTable rows members) refl ∙ rw e
+tested-as : (rows members entries bytes : List ℕ) (root handles : ℕ) {sound : Answer (Unit {0})} → sound ≡ soundness (typeTable rows members entries)
+    → (r : Verdict) → BeforeWalk sound rows root (length bytes) handles r → verdictOf r ≡ before (message (typeTable rows members entries) bytes handles) root
+tested-as rows members entries bytes root handles e r tested = tested (typeTable rows members entries) refl ∙ rw e
 
-module _ (rows members bytes : List ℕ) (root handles : ℕ) {sound : Answer (Unit {0})} (s : sound ≡ soundness (typeTable rows members))
+module _ (rows members entries bytes : List ℕ) (root handles : ℕ) {sound : Answer (Unit {0})} (s : sound ≡ soundness (typeTable rows members entries))
     {r : Verdict} (tested : BeforeWalk sound rows root (length bytes) handles r) where
-  pub judge-refused : {f : Fault} → r ≡ Checked.Refused f → refused f ≡ judgedLengths (message (typeTable rows members) bytes handles) root
-  judge-refused e = rw (judged-before (message (typeTable rows members) bytes handles) root, ← tested-as rows members bytes root handles s r tested, e)
+  pub judge-refused : {f : Fault} → r ≡ Checked.Refused f → refused f ≡ judgedLengths (message (typeTable rows members entries) bytes handles) root
+  judge-refused e = rw (judged-before (message (typeTable rows members entries) bytes handles) root, ← tested-as rows members entries bytes root handles s r tested, e)
 
   module _ (e : r ≡ Checked.Accepted) where
     pub judge-walkable : (sizes alignments : List ℕ) {sizes′ alignments′ : List ℕ}
-        → sizes′ ≡ givenIfSound (typeTable rows members) (keptSizes (typeTable rows members)) sizes
-        → alignments′ ≡ givenIfSound (typeTable rows members) (keptAlignments (typeTable rows members)) alignments
-        → Walkable (typeTable rows members) bytes root handles sizes′ alignments′
+        → sizes′ ≡ givenIfSound (typeTable rows members entries) (keptSizes (typeTable rows members entries)) sizes
+        → alignments′ ≡ givenIfSound (typeTable rows members entries) (keptAlignments (typeTable rows members entries)) alignments
+        → Walkable (typeTable rows members entries) bytes root handles sizes′ alignments′
     judge-walkable sizes alignments =
-        walkable rows members bytes root handles sizes alignments (sym (tested-as rows members bytes root handles s r tested) ∙ ap verdictOf e)
+        walkable rows members entries bytes root handles sizes alignments (sym (tested-as rows members entries bytes root handles s r tested) ∙ ap verdictOf e)
 
     pub judge-passed : {values values′ objects objects′ : List ℕ} {reading : Reading}
-        → Passed (typeTable rows members) bytes root handles values values′ objects objects′ reading
-        → readingOf reading ≡ judgedLengths (message (typeTable rows members) bytes handles) root
+        → Passed (typeTable rows members entries) bytes root handles values values′ objects objects′ reading
+        → readingOf reading ≡ judgedLengths (message (typeTable rows members entries) bytes handles) root
     judge-passed p =
-        p .answers ∙ rw (judged-before (message (typeTable rows members) bytes handles) root, ← tested-as rows members bytes root handles s r tested, e)
+        p .answers ∙ rw (judged-before (message (typeTable rows members entries) bytes handles) root, ← tested-as rows members entries bytes root handles s r tested, e)
 
 -- ---- a message that is accepted
 
@@ -163,11 +163,11 @@ pub held-lists : {m : Message} {root : ℕ} {lengths : Lengths} (h : Held m root
 held-lists {m} {root} h = finished-lists m (walk m root) (accepted-finished m root (h .held) .1)
 
 -- It may be walked again.
-pub judged-walkable : (rows members bytes : List ℕ) (root handles : ℕ) (sizes alignments : List ℕ) {a : Reading} {lengths : Lengths}
-    {sizes′ alignments′ : List ℕ} → readingOf a ≡ judgedLengths (message (typeTable rows members) bytes handles) root → a ≡ Accepted lengths
-    → sizes′ ≡ givenIfSound (typeTable rows members) (keptSizes (typeTable rows members)) sizes
-    → alignments′ ≡ givenIfSound (typeTable rows members) (keptAlignments (typeTable rows members)) alignments
-    → Walkable (typeTable rows members) bytes root handles sizes′ alignments′
-judged-walkable rows members bytes root handles sizes alignments {a} j e =
-    let m = message (typeTable rows members) bytes handles in
-    walkable rows members bytes root handles sizes alignments (accepted-finished m root (as-held m root a j e .held) .0)
+pub judged-walkable : (rows members entries bytes : List ℕ) (root handles : ℕ) (sizes alignments : List ℕ) {a : Reading} {lengths : Lengths}
+    {sizes′ alignments′ : List ℕ} → readingOf a ≡ judgedLengths (message (typeTable rows members entries) bytes handles) root → a ≡ Accepted lengths
+    → sizes′ ≡ givenIfSound (typeTable rows members entries) (keptSizes (typeTable rows members entries)) sizes
+    → alignments′ ≡ givenIfSound (typeTable rows members entries) (keptAlignments (typeTable rows members entries)) alignments
+    → Walkable (typeTable rows members entries) bytes root handles sizes′ alignments′
+judged-walkable rows members entries bytes root handles sizes alignments {a} j e =
+    let m = message (typeTable rows members entries) bytes handles in
+    walkable rows members entries bytes root handles sizes alignments (accepted-finished m root (as-held m root a j e .held) .0)

@@ -50,15 +50,23 @@ fn room_too_small(needed: usize) -> Fault
 }
 
 // Every refusal but 22.
-pub fn check(rows: &[u32], members: &[u32], root: u32, message: &[u8], handles: u64) -> Verdict
-    ensures answer { λ r. ⌜ verdictOf r ≡ Rules.check (Doing.message (typeTable (now (rows .entry)) (now (members .entry))) (now (message .entry)) handles) root ⌝ }
-    ensures numbers { λ r. ⌜ verdictNumbers r ≡ numbersOf 0 nothing (Rules.check (Doing.message (typeTable (now (rows .entry)) (now (members .entry))) (now (message .entry)) handles) root) ⌝ }
+pub fn check(
+    rows: &[u32],
+    members: &[u32],
+    entries: &[u64],
+    root: u32,
+    message: &[u8],
+    handles: u64,
+) -> Verdict
+    ensures answer { λ r. ⌜ verdictOf r ≡ Rules.check (Doing.message (typeTable (now (rows .entry)) (now (members .entry)) (now (entries .entry))) (now (message .entry)) handles) root ⌝ }
+    ensures numbers { λ r. ⌜ verdictNumbers r ≡ numbersOf 0 nothing (Rules.check (Doing.message (typeTable (now (rows .entry)) (now (members .entry)) (now (entries .entry))) (now (message .entry)) handles) root) ⌝ }
 {
     let mut sizes = [0u32; 256];
     let mut alignments = [0u32; 256];
     match judge(
         rows,
         members,
+        entries,
         &mut sizes,
         &mut alignments,
         root,
@@ -75,20 +83,22 @@ pub fn check(rows: &[u32], members: &[u32], root: u32, message: &[u8], handles: 
 pub fn read_values(
     rows: &[u32],
     members: &[u32],
+    entries: &[u64],
     root: u32,
     message: &[u8],
     handles: u64,
     values: &mut [u64],
 ) -> Given
-    ensures answer { λ r. ⌜ givenOf r ≡ lengthOf (Rules.readValues (Doing.message (typeTable (now (rows .entry)) (now (members .entry))) (now (message .entry)) handles) root (length (now (values .entry)))) ⌝ }
-    ensures list { λ _. ⌜ now (values .exit) ≡ lentAfter (Rules.readValues (Doing.message (typeTable (now (rows .entry)) (now (members .entry))) (now (message .entry)) handles) root (length (now (values .entry)))) (now (values .entry)) ⌝ }
-    ensures numbers { λ r. ⌜ givenNumbers r ≡ numbersOf 1 counted (Rules.readValues (Doing.message (typeTable (now (rows .entry)) (now (members .entry))) (now (message .entry)) handles) root (length (now (values .entry)))) ⌝ }
+    ensures answer { λ r. ⌜ givenOf r ≡ lengthOf (Rules.readValues (Doing.message (typeTable (now (rows .entry)) (now (members .entry)) (now (entries .entry))) (now (message .entry)) handles) root (length (now (values .entry)))) ⌝ }
+    ensures list { λ _. ⌜ now (values .exit) ≡ lentAfter (Rules.readValues (Doing.message (typeTable (now (rows .entry)) (now (members .entry)) (now (entries .entry))) (now (message .entry)) handles) root (length (now (values .entry)))) (now (values .entry)) ⌝ }
+    ensures numbers { λ r. ⌜ givenNumbers r ≡ numbersOf 1 counted (Rules.readValues (Doing.message (typeTable (now (rows .entry)) (now (members .entry)) (now (entries .entry))) (now (message .entry)) handles) root (length (now (values .entry)))) ⌝ }
 {
     let mut sizes = [0u32; 256];
     let mut alignments = [0u32; 256];
     match judge(
         rows,
         members,
+        entries,
         &mut sizes,
         &mut alignments,
         root,
@@ -104,6 +114,7 @@ pub fn read_values(
             pass(
                 rows,
                 members,
+                entries,
                 &sizes,
                 &alignments,
                 root,
@@ -121,20 +132,22 @@ pub fn read_values(
 pub fn read_objects(
     rows: &[u32],
     members: &[u32],
+    entries: &[u64],
     root: u32,
     message: &[u8],
     handles: u64,
     objects: &mut [u32],
 ) -> Given
-    ensures answer { λ r. ⌜ givenOf r ≡ lengthOf (Rules.readObjects (Doing.message (typeTable (now (rows .entry)) (now (members .entry))) (now (message .entry)) handles) root (length (now (objects .entry)))) ⌝ }
-    ensures list { λ _. ⌜ now (objects .exit) ≡ lentAfter (Rules.readObjects (Doing.message (typeTable (now (rows .entry)) (now (members .entry))) (now (message .entry)) handles) root (length (now (objects .entry)))) (now (objects .entry)) ⌝ }
-    ensures numbers { λ r. ⌜ givenNumbers r ≡ numbersOf 1 counted (Rules.readObjects (Doing.message (typeTable (now (rows .entry)) (now (members .entry))) (now (message .entry)) handles) root (length (now (objects .entry)))) ⌝ }
+    ensures answer { λ r. ⌜ givenOf r ≡ lengthOf (Rules.readObjects (Doing.message (typeTable (now (rows .entry)) (now (members .entry)) (now (entries .entry))) (now (message .entry)) handles) root (length (now (objects .entry)))) ⌝ }
+    ensures list { λ _. ⌜ now (objects .exit) ≡ lentAfter (Rules.readObjects (Doing.message (typeTable (now (rows .entry)) (now (members .entry)) (now (entries .entry))) (now (message .entry)) handles) root (length (now (objects .entry)))) (now (objects .entry)) ⌝ }
+    ensures numbers { λ r. ⌜ givenNumbers r ≡ numbersOf 1 counted (Rules.readObjects (Doing.message (typeTable (now (rows .entry)) (now (members .entry)) (now (entries .entry))) (now (message .entry)) handles) root (length (now (objects .entry)))) ⌝ }
 {
     let mut sizes = [0u32; 256];
     let mut alignments = [0u32; 256];
     match judge(
         rows,
         members,
+        entries,
         &mut sizes,
         &mut alignments,
         root,
@@ -150,6 +163,7 @@ pub fn read_objects(
             pass(
                 rows,
                 members,
+                entries,
                 &sizes,
                 &alignments,
                 root,
@@ -167,22 +181,24 @@ pub fn read_objects(
 pub fn read(
     rows: &[u32],
     members: &[u32],
+    entries: &[u64],
     root: u32,
     message: &[u8],
     handles: u64,
     values: &mut [u64],
     objects: &mut [u32],
 ) -> Reading
-    ensures answer { λ r. ⌜ readingOf r ≡ lengthsOf (Rules.read (Doing.message (typeTable (now (rows .entry)) (now (members .entry))) (now (message .entry)) handles) root (length (now (values .entry))) (length (now (objects .entry)))) ⌝ }
-    ensures values { λ _. ⌜ now (values .exit) ≡ lentAfter (valuesIn (Rules.read (Doing.message (typeTable (now (rows .entry)) (now (members .entry))) (now (message .entry)) handles) root (length (now (values .entry))) (length (now (objects .entry))))) (now (values .entry)) ⌝ }
-    ensures objects { λ _. ⌜ now (objects .exit) ≡ lentAfter (objectsIn (Rules.read (Doing.message (typeTable (now (rows .entry)) (now (members .entry))) (now (message .entry)) handles) root (length (now (values .entry))) (length (now (objects .entry))))) (now (objects .entry)) ⌝ }
-    ensures numbers { λ r. ⌜ readingNumbers r ≡ numbersOf 2 bothCounted (Rules.read (Doing.message (typeTable (now (rows .entry)) (now (members .entry))) (now (message .entry)) handles) root (length (now (values .entry))) (length (now (objects .entry)))) ⌝ }
+    ensures answer { λ r. ⌜ readingOf r ≡ lengthsOf (Rules.read (Doing.message (typeTable (now (rows .entry)) (now (members .entry)) (now (entries .entry))) (now (message .entry)) handles) root (length (now (values .entry))) (length (now (objects .entry)))) ⌝ }
+    ensures values { λ _. ⌜ now (values .exit) ≡ lentAfter (valuesIn (Rules.read (Doing.message (typeTable (now (rows .entry)) (now (members .entry)) (now (entries .entry))) (now (message .entry)) handles) root (length (now (values .entry))) (length (now (objects .entry))))) (now (values .entry)) ⌝ }
+    ensures objects { λ _. ⌜ now (objects .exit) ≡ lentAfter (objectsIn (Rules.read (Doing.message (typeTable (now (rows .entry)) (now (members .entry)) (now (entries .entry))) (now (message .entry)) handles) root (length (now (values .entry))) (length (now (objects .entry))))) (now (objects .entry)) ⌝ }
+    ensures numbers { λ r. ⌜ readingNumbers r ≡ numbersOf 2 bothCounted (Rules.read (Doing.message (typeTable (now (rows .entry)) (now (members .entry)) (now (entries .entry))) (now (message .entry)) handles) root (length (now (values .entry))) (length (now (objects .entry)))) ⌝ }
 {
     let mut sizes = [0u32; 256];
     let mut alignments = [0u32; 256];
     match judge(
         rows,
         members,
+        entries,
         &mut sizes,
         &mut alignments,
         root,
@@ -200,6 +216,7 @@ pub fn read(
             pass(
                 rows,
                 members,
+                entries,
                 &sizes,
                 &alignments,
                 root,

@@ -51,6 +51,7 @@ fn before(verdict: Soundness, rows: &[u32], root: u32, length: usize, handles: u
 fn primary(
     rows: &[u32],
     members: &[u32],
+    entries: &[u64],
     sizes: &[u32; 256],
     alignments: &[u32; 256],
     root: usize,
@@ -59,8 +60,8 @@ fn primary(
     values: &mut [u64],
     objects: &mut [u32],
 ) -> Walked
-    requires { ⌜ Walkable (typeTable (now rows) (now members)) (now bytes) root held (now sizes) (now alignments) ⌝ }
-    ensures { λ r. ⌜ PrimaryDid (typeTable (now (rows .entry)) (now (members .entry))) (now (bytes .entry)) root held (now (values .entry)) (now (values .exit)) (now (objects .entry)) (now (objects .exit)) r ⌝ }
+    requires { ⌜ Walkable (typeTable (now rows) (now members) (now entries)) (now bytes) root held (now sizes) (now alignments) ⌝ }
+    ensures { λ r. ⌜ PrimaryDid (typeTable (now (rows .entry)) (now (members .entry)) (now (entries .entry))) (now (bytes .entry)) root held (now (values .entry)) (now (values .exit)) (now (objects .entry)) (now (objects .exit)) r ⌝ }
 {
     let start = Cursor {
         next: 0,
@@ -74,6 +75,7 @@ fn primary(
         Walked::On(c) => value(
             rows,
             members,
+            entries,
             sizes,
             alignments,
             bytes,
@@ -114,6 +116,7 @@ fn after(end: Cursor, length: usize, held: usize) -> Reading
 pub(crate) fn pass(
     rows: &[u32],
     members: &[u32],
+    entries: &[u64],
     sizes: &[u32; 256],
     alignments: &[u32; 256],
     root: u32,
@@ -122,13 +125,14 @@ pub(crate) fn pass(
     values: &mut [u64],
     objects: &mut [u32],
 ) -> Reading
-    requires { ⌜ Walkable (typeTable (now rows) (now members)) (now bytes) root handles (now sizes) (now alignments) ⌝ }
-    ensures { λ r. ⌜ Passed (typeTable (now (rows .entry)) (now (members .entry))) (now (bytes .entry)) root handles (now (values .entry)) (now (values .exit)) (now (objects .entry)) (now (objects .exit)) r ⌝ }
+    requires { ⌜ Walkable (typeTable (now rows) (now members) (now entries)) (now bytes) root handles (now sizes) (now alignments) ⌝ }
+    ensures { λ r. ⌜ Passed (typeTable (now (rows .entry)) (now (members .entry)) (now (entries .entry))) (now (bytes .entry)) root handles (now (values .entry)) (now (values .exit)) (now (objects .entry)) (now (objects .exit)) r ⌝ }
 {
     let held = handles as usize;
     match primary(
         rows,
         members,
+        entries,
         sizes,
         alignments,
         root as usize,
@@ -147,6 +151,7 @@ pub(crate) fn pass(
 pub(crate) fn judge(
     rows: &[u32],
     members: &[u32],
+    entries: &[u64],
     sizes: &mut [u32; 256],
     alignments: &mut [u32; 256],
     root: u32,
@@ -154,15 +159,15 @@ pub(crate) fn judge(
     handles: u64,
 ) -> Reading
     requires { ⌜ Zeroed (now sizes) × Zeroed (now alignments) ⌝ }
-    ensures answer { λ r. ⌜ readingOf r ≡ judgedLengths (message (typeTable (now (rows .entry)) (now (members .entry))) (now (bytes .entry)) handles) root ⌝ }
+    ensures answer { λ r. ⌜ readingOf r ≡ judgedLengths (message (typeTable (now (rows .entry)) (now (members .entry)) (now (entries .entry))) (now (bytes .entry)) handles) root ⌝ }
     ensures sizes { λ _.
-        let t = typeTable (now (rows .entry)) (now (members .entry)) in
+        let t = typeTable (now (rows .entry)) (now (members .entry)) (now (entries .entry)) in
         ⌜ now (sizes .exit) ≡ givenIfSound t (keptSizes t) (now (sizes .entry)) ⌝ }
     ensures alignments { λ _.
-        let t = typeTable (now (rows .entry)) (now (members .entry)) in
+        let t = typeTable (now (rows .entry)) (now (members .entry)) (now (entries .entry)) in
         ⌜ now (alignments .exit) ≡ givenIfSound t (keptAlignments t) (now (alignments .entry)) ⌝ }
 {
-    let verdict = climb(rows, members, sizes, alignments);
+    let verdict = climb(rows, members, entries, sizes, alignments);
     if let Verdict::Refused(f) = before(verdict, rows, root, bytes.len(), handles) {
         return Reading::Refused(f);
     }
@@ -171,6 +176,7 @@ pub(crate) fn judge(
     pass(
         rows,
         members,
+        entries,
         sizes,
         alignments,
         root,

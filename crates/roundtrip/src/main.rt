@@ -1,6 +1,6 @@
 // Sends each message of the number stream on standard input there and back: it is checked and read, and what was read is
 // written and compared. A refused one is reported, with its line, its number and its place; at the end stand the counts. A
-// line is a message: row list, member list, root, bytes and handle count. vectors/make.py makes the stream from the vector files.
+// line is a message: row list, member list, entries, root, bytes and handle count. vectors/make.py makes the stream from the vector files.
 use demands::Trip;
 
 // Room for the lists of a type table, and for a message and its values.
@@ -78,6 +78,7 @@ fn there_and_back(numbers: &[u64]) -> Trip {
     let mut rows = [0u32; LIST_ROOM];
     let mut members = [0u32; LIST_ROOM];
     let t = stream::put_table(numbers, &mut rows, &mut members);
+    let entries = stream::list(numbers, t.entries);
     let root = (words::value_at(numbers, t.next) % 4294967296) as u32;
     let bytes = stream::list(numbers, t.next + 1);
     let mut message = [0u8; MESSAGE_ROOM];
@@ -88,6 +89,7 @@ fn there_and_back(numbers: &[u64]) -> Trip {
     demands::round_trip(
         &rows[..t.rows],
         &members[..t.members],
+        entries,
         root,
         &message[..count],
         handles,

@@ -14,13 +14,13 @@ use Rattle.rules.specs.declared.Fault.{Fault}
 use Rattle.rules.specs.declared.Layout.{Layout}
 use Rattle.rules.specs.Refusals.{if_then_else_, fault, tableNotSound, tooDeep, accepted}
 use Rattle.rules.specs.Bytes.{padded, ones32, ones64}
-use Rattle.rules.specs.TypeTable.{TypeTable, Edition, eightByteEnvelopes, envelopeSize, FidlType, bool, number, handle, array, vector, string, struct, box, table, union, none, typeOf, memberRows, Content, known, unknown, contentOf, below}
+use Rattle.rules.specs.TypeTable.{TypeTable, Edition, eightByteEnvelopes, envelopeSize, FidlType, bool, number, handle, array, vector, string, struct, box, table, union, strictEnum, strictBits, none, typeOf, memberRows, Content, known, unknown, contentOf, below}
 use Rattle.rules.specs.Sizes.{Field, field, fieldsOf, fieldsSize, structSize, layoutAs, layoutBelow, layoutOf, sizeOf}
 use Rattle.rules.specs.Text.{isUtf8}
 use Rattle.rules.specs.Trace.{Event, claimed, presentHandle, unknownContent, handlesOf, objectList, primaryObject, vectorObject, boxedObject, envelopesObject, payloadObject, unknownObject}
 use Rattle.rules.specs.Decode as D
 use Rattle.rules.specs.Decode.{Message, Decoded, went, stopped, Decoder, ReadRecord, got, wrong}
-use Rattle.rules.specs.Records.{anyPattern, boolPattern, ordinalPattern, readNumber, readPresence, readCount, readTable}
+use Rattle.rules.specs.Records.{Judged, anyPattern, boolPattern, enumPattern, bitsPattern, ordinalPattern, readNumber, readPresence, readCount, readTable}
 use Rattle.rules.specs.Envelope.{decodeWord, inLine, outOfLine, payloadInLine, claimable, lowWord, handleNumber, flags, byteNumbered, flagged, knownAs, wholeWords, unknownInLine, unknownOutOfLine, unknownEnvelope, contentOfEightBytes, decodeContent}
 use Rattle.rules.specs.Walk as W
 use Rattle.rules.specs.Answers.{walk, Reading, judged}
@@ -28,9 +28,15 @@ use Rattle.rules.proofs.Bytes.{padded-above}
 use Rattle.rules.proofs.Trace.{objects-append}
 use Rattle.rules.proofs.Demands.{passed}
 
+-- A type whose value is one number of so many bytes.
+pub data HasWidth : FidlType → ℕ → Type 0 where
+  of-number : {width : ℕ} → HasWidth (number width) width
+  of-enum : {width first count : ℕ} → HasWidth (strictEnum width first count) width
+  of-bits : {width mask : ℕ} → HasWidth (strictBits width mask) width
+
 -- What is asked of the type table, and holds of every sound one: a number's width is not 0.
 abbrev pub NumbersHaveBytes : TypeTable → Type 0
-NumbersHaveBytes t = (row width : ℕ) → typeOf t row ≡ number width → 1 ≤ width
+NumbersHaveBytes t = (row width : ℕ) → HasWidth (typeOf t row) width → 1 ≤ width
 
 -- ---- results
 
@@ -136,9 +142,12 @@ module _ (m : Message) where
   unfolding D.takeHandles
   gives-handles word-at event no-object = record { few = λ at next used. within-require (leb (used + handlesOf event) (m .handles)) _ (gave next (used + handlesOf event) [] (event ∷ []) (rw no-object (omega arith))) }
 
+  gives-number : (width : ℕ) (judge : ℕ → Judged) → Gives 1 (D.recordThen width (readNumber m width judge) (λ at v. D.nothing))
+  gives-number width judge = gives-record width (readNumber m width judge) (λ at v. gives-nothing)
+
   gives-word : (width : ℕ) → Gives 1 (decodeWord m width)
   unfolding decodeWord
-  gives-word width = gives-record width (readNumber m width anyPattern) (λ at v. gives-nothing)
+  gives-word width = gives-number width anyPattern
 
   -- ---- what lies deeper: a row gives at most as many numbers as it has bytes in line
 
@@ -294,8 +303,8 @@ module _ (m : Message) where
     gives-as : {d : D.Deeper} → Deep d → (layouts : ℕ → Layout) (inner : ℕ → Decoder) → ((row : ℕ) → Gives (layouts row .size) (inner row)) → (row : ℕ) (type : FidlType)
         → typeOf (m .table) row ≡ type → Gives (layoutAs (m .table) layouts type .size) (W.decodeAs m d layouts inner row type)
     unfolding layoutAs W.decodeAs
-    gives-as deep layouts inner g row bool is = gives-record 1 (readNumber m 1 boolPattern) (λ at v. gives-nothing)
-    gives-as deep layouts inner g row (number width) is = gives-more (wide row width is) (gives-word width)
+    gives-as deep layouts inner g row bool is = gives-number 1 boolPattern
+    gives-as deep layouts inner g row (number width) is = gives-more (wide row width (rw is of-number)) (gives-word width)
     gives-as deep layouts inner g row (handle optional) is = gives-more (omega arith) (gives-record 4 (readPresence m 4 ones32 optional) gives-after-handle)
     gives-as deep layouts inner g row (array element count) is = gives-elements (layouts element .size) (λ i. g element) 0 count
     gives-as deep layouts inner g row (vector element largest optional) is = gives-more (omega arith) (gives-record 16 (readCount m optional largest) (gives-after-vector deep row element))
@@ -305,6 +314,8 @@ module _ (m : Message) where
     gives-as deep layouts inner g row (table first count) is = gives-more (omega arith) (gives-record 16 (readTable m) (gives-after-table deep row (contentOf (m .table) first count)))
     gives-as deep layouts inner g row (union first count optional flexible) is =
         gives-more (omega arith) (gives-record 8 (readNumber m 8 (ordinalPattern (contentOf (m .table) first count) optional flexible)) (gives-after-union deep row (contentOf (m .table) first count)))
+    gives-as deep layouts inner g row (strictEnum width first count) is = gives-more (wide row width (rw is of-enum)) (gives-number width (enumPattern (m .table) first count))
+    gives-as deep layouts inner g row (strictBits width mask) is = gives-more (wide row width (rw is of-bits)) (gives-number width (bitsPattern (m .table) mask))
     gives-as deep layouts inner g row none is = gives-refuse (fault tableNotSound (Row row))
 
     gives-below : {d : D.Deeper} → Deep d → (bound row : ℕ) → Gives (layoutBelow (m .table) bound row .size) (W.decodeBelow m d bound row)

@@ -15,7 +15,7 @@ use Rattle.rules.specs.Bytes.{part, word, zeros, leadingZeros, padded, o
 use Rattle.rules.specs.Trace.{Event, claimed, presentHandle, unknownContent, objectList, handlesOf, FillsAreZero, PresentHandlesAreOnes}
 use Rattle.rules.specs.Decode as D
 use Rattle.rules.specs.Decode.{Message, Decoded, went, stopped, traceOf, Decoder, ReadRecord, got, wrong}
-use Rattle.rules.specs.Records.{anyPattern, readNumber}
+use Rattle.rules.specs.Records.{Judged, anyPattern, readNumber}
 use Rattle.rules.specs.Envelope.{unknownPayload, UnknownClaimsFit, decodeWord, lowWord, handleNumber, flags, byteNumbered, flagged}
 use Rattle.rules.proofs.Bytes.{zeros-length, padded-above}
 use Rattle.rules.proofs.Twins.{standing-zero}
@@ -121,9 +121,12 @@ module _ (m : Message) where
     met = λ at next used. record-goes-true (read at) (λ v. continue at v (at + size) next used) (λ v e. x at v e .met (at + size) next used);
   }
 
+  pub number-true : (width : ℕ) (judge : ℕ → Judged) → Truthful (D.recordThen width (readNumber m width judge) (λ at v. D.nothing))
+  number-true width judge = record-true width (readNumber m width judge) (λ at v. D.nothing) (λ at v e. nothing-true)
+
   pub word-true : (width : ℕ) → Truthful (decodeWord m width)
   unfolding decodeWord
-  word-true width = record-true width (readNumber m width anyPattern) (λ at v. D.nothing) (λ at v e. nothing-true)
+  word-true width = number-true width anyPattern
 
   pub checked-true : (holds : List ℕ → Bool) (f : (at : ℕ) (values : List ℕ) → Fault) {g : Decoder} → Truthful g → Truthful (D.checked holds f g)
   unfolding D.checked

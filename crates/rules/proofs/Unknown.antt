@@ -16,7 +16,7 @@ use Rattle.rules.specs.Decode as D
 use Rattle.rules.specs.Decode.{Message, Decoded, went, Decoder}
 use Rattle.rules.specs.Encode as E
 use Rattle.rules.specs.Encode.{wrote, Encoder}
-use Rattle.rules.specs.Records.{anyPattern}
+use Rattle.rules.specs.Records.{Judged, anyPattern, readNumber, writeNumber}
 use Rattle.rules.specs.Envelope.{decodeWord, encodeWord, inLine, outOfLine, payloadInLine, envelopeBytes, lowWord, handleNumber, flags, wholeWords, unknownEnvelope, byteNumberFits, handleNumberFits, wordFits, writeWords, writeUnknownInLine, writeUnknownOutOfLine}
 use Rattle.rules.proofs.Tests.{both}
 use Rattle.rules.proofs.Bytes.{StandsAt, stands-nil, stands-left, stands-right, stands-join, octets-append, octets-bytesOf, octets-nil, bytesOf-length, word-standing, standing-word, word-below, word-add, word-zeros, padded-above}
@@ -27,13 +27,17 @@ use Rattle.rules.proofs.Records.{number-twins}
 use Rattle.rules.proofs.Envelopes.{tail-stands, stands-tail}
 use Rattle.rules.proofs.Presence.{NeverZero}
 
--- ---- words
+-- ---- numbers that lead to nothing else, and words
+
+pub twins-number : (m : Message) → Octets (m .bytes) → (width : ℕ) (judge : ℕ → Judged)
+    → Twins m width (D.recordThen width (readNumber m width judge) (λ at v. D.nothing)) (E.recordThen (writeNumber width judge) (λ v. E.nothing))
+twins-number m oct width judge =
+    let e : width + 0 ≡ width = omega arith in
+    twins-size m e (twins-record m (number-twins m oct width judge) (λ at v. twins-nothing m))
 
 pub twins-word : (m : Message) → Octets (m .bytes) → (width : ℕ) → Twins m width (decodeWord m width) (encodeWord width)
 unfolding decodeWord encodeWord
-twins-word m oct width =
-    let e : width + 0 ≡ width = omega arith in
-    twins-size m e (twins-record m (number-twins m oct width anyPattern) (λ at v. twins-nothing m))
+twins-word m oct width = twins-number m oct width anyPattern
 
 -- The words of unknown content out of line: its byte number is a multiple of 8.
 words-twins : (m : Message) → Octets (m .bytes) → (bytes : ℕ) → bytes % 8 ≡ 0

@@ -10,19 +10,19 @@ use Rattle.rules.specs.declared.Place.the-variants.{Row, Byte}
 use Rattle.rules.specs.declared.Layout.{Layout}
 use Rattle.rules.specs.Refusals.{if_then_else_, fault, tableNotSound, tooDeep, requiredAbsent, envelopeFormWrong, handlesImpossible}
 use Rattle.rules.specs.Bytes.{word, ones32, ones64}
-use Rattle.rules.specs.TypeTable.{Edition, eightByteEnvelopes, envelopeSize, FidlType, bool, number, handle, array, vector, string, struct, box, table, union, none, typeOf, memberRows, Content, known, unknown, contentOf, below}
+use Rattle.rules.specs.TypeTable.{Edition, eightByteEnvelopes, envelopeSize, FidlType, bool, number, handle, array, vector, string, struct, box, table, union, strictEnum, strictBits, none, typeOf, memberRows, Content, known, unknown, contentOf, below}
 use Rattle.rules.specs.Sizes.{Field, field, fieldsOf, layoutBelow, sizeOf}
 use Rattle.rules.specs.Text.{isUtf8}
 use Rattle.rules.specs.Trace.{presentHandle, unknownContent, primaryObject, vectorObject, boxedObject, envelopesObject, payloadObject, unknownObject}
 use Rattle.rules.specs.Decode as D
 use Rattle.rules.specs.Decode.{Message, traceOf, Decoder, got}
-use Rattle.rules.specs.Records.{unless, boolPattern, ordinalPattern, readNumber, Presence, absent, present, neither, presence, presenceRecord, readPresence, readCount, readTable}
+use Rattle.rules.specs.Records.{unless, boolPattern, enumPattern, bitsPattern, ordinalPattern, readNumber, Presence, absent, present, neither, presence, presenceRecord, readPresence, readCount, readTable}
 use Rattle.rules.specs.Envelope.{decodeWord, inLine, outOfLine, payloadInLine, claimable, unknownPayload, requireClaimable, lowWord, handleNumber, flags, knownAs, unknownInLine, unknownOutOfLine, wholeWords, unknownEnvelope, contentOfEightBytes, decodeContent}
 use Rattle.rules.specs.Walk as W
 use Rattle.rules.specs.Answers.{walk}
 use Rattle.rules.proofs.Tests.{both}
 use Rattle.rules.proofs.Records.{readIf-inv, wrong-not-got, present-ones}
-use Rattle.rules.proofs.Events.{Met, met-handle, met-unknown, True, Truthful, true-require, true-if, nothing-true, refuse-true, sequence-true, elements-true, here-true, emit-true, record-true, word-true, checked-true, fill-true, claim-true, take-true, optional-true, last-true, zero-true, present-true, numbered-true, flagged-true}
+use Rattle.rules.proofs.Events.{Met, met-handle, met-unknown, True, Truthful, true-require, true-if, nothing-true, refuse-true, sequence-true, elements-true, here-true, emit-true, record-true, number-true, word-true, checked-true, fill-true, claim-true, take-true, optional-true, last-true, zero-true, present-true, numbered-true, flagged-true}
 
 module _ (m : Message) where
   -- What lies deeper.
@@ -143,7 +143,7 @@ module _ (m : Message) where
   module _ {d : D.Deeper} (a : AllTruthful d) where
     as-true : (layouts : ℕ → Layout) (inner : ℕ → Decoder) → ((row : ℕ) → Truthful m (inner row)) → (row : ℕ) (type : FidlType) → Truthful m (W.decodeAs m d layouts inner row type)
     unfolding W.decodeAs
-    as-true layouts inner x row bool = record-true m 1 (readNumber m 1 boolPattern) (λ at v. D.nothing) (λ at v e. nothing-true m)
+    as-true layouts inner x row bool = number-true m 1 boolPattern
     as-true layouts inner x row (number width) = word-true m width
     as-true layouts inner x row (handle optional) = record-true m 4 (readPresence m 4 ones32 optional) (W.afterHandle m) (after-handle-true optional)
     as-true layouts inner x row (array element count) = elements-true m (layouts element .size) (λ i. inner element) (λ i. x element) 0 count
@@ -158,6 +158,8 @@ module _ (m : Message) where
     as-true layouts inner x row (union first count optional flexible) =
         let content = contentOf (m .table) first count in
         record-true m 8 (readNumber m 8 (ordinalPattern content optional flexible)) (W.afterUnion m d row content) (λ at v e. after-union-true a row content at v)
+    as-true layouts inner x row (strictEnum width first count) = number-true m width (enumPattern (m .table) first count)
+    as-true layouts inner x row (strictBits width mask) = number-true m width (bitsPattern (m .table) mask)
     as-true layouts inner x row none = refuse-true m (fault tableNotSound (Row row))
 
     below-true : (bound row : ℕ) → Truthful m (W.decodeBelow m d bound row)

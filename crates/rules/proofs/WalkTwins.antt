@@ -12,7 +12,7 @@ use Rattle.rules.specs.declared.Fault.{Fault}
 use Rattle.rules.specs.declared.Layout.{Layout}
 use Rattle.rules.specs.Refusals.{if_then_else_, fault, objectDoesNotFit, tableNotSound, tooDeep}
 use Rattle.rules.specs.Bytes.{Octets, padded, ones32, ones64}
-use Rattle.rules.specs.TypeTable.{Edition, eightByteEnvelopes, envelopeSize, FidlType, bool, number, handle, array, vector, string, struct, box, table, union, none, typeOf, memberRows, Content, known, unknown, contentOf, below}
+use Rattle.rules.specs.TypeTable.{Edition, eightByteEnvelopes, envelopeSize, FidlType, bool, number, handle, array, vector, string, struct, box, table, union, strictEnum, strictBits, none, typeOf, memberRows, Content, known, unknown, contentOf, below}
 use Rattle.rules.specs.Sizes.{Field, field, fieldsOf, fieldsSize, structSize, layoutAs, layoutBelow, layoutOf, sizeOf}
 use Rattle.rules.specs.Text.{isUtf8}
 use Rattle.rules.specs.Trace.{Event, claimed, vectorObject, boxedObject, envelopesObject, payloadObject}
@@ -20,7 +20,7 @@ use Rattle.rules.specs.Decode as D
 use Rattle.rules.specs.Decode.{Message, went, stopped, Decoder}
 use Rattle.rules.specs.Encode as E
 use Rattle.rules.specs.Encode.{Encoder}
-use Rattle.rules.specs.Records.{boolPattern, ordinalPattern}
+use Rattle.rules.specs.Records.{boolPattern, enumPattern, bitsPattern, ordinalPattern}
 use Rattle.rules.specs.Envelope.{decodeWord, encodeWord, inLine, outOfLine, payloadInLine, claimable, flags, handleNumber, lowWord, wholeWords, knownAs, writeKnownAs, unknownEnvelope, writeUnknown, contentOfEightBytes, writeContentOfEightBytes, decodeContent, encodeContent}
 use Rattle.rules.specs.Walk as W
 use Rattle.rules.specs.Writer as R
@@ -31,7 +31,7 @@ use Rattle.rules.proofs.Claims.{twins-handle, twins-record, twins-claim
 use Rattle.rules.proofs.Records.{number-twins, presence-twins, count-twins, table-twins}
 use Rattle.rules.proofs.Envelopes.{twins-checked, twins-numbered, twins-flagged}
 use Rattle.rules.proofs.Presence.{NeverZero, Grows, twins-optional, last-not-zero, LastRuns, last-runs, twins-last, twins-zero-envelope, twins-present-envelope, never-zero-flag, never-zero-number}
-use Rattle.rules.proofs.Unknown.{twins-word, twins-content, never-zero-content}
+use Rattle.rules.proofs.Unknown.{twins-number, twins-word, twins-content, never-zero-content}
 
 -- What lies deeper, on both sides.
 pub data DeeperTwins (m : Message) : D.Deeper → E.Deeper → Type 0 where
@@ -234,7 +234,7 @@ module _ (m : Message) (oct : Octets (m .bytes)) (short : length (m .bytes) ≤ 
     twins-as : (layouts : ℕ → Layout) (inner : ℕ → Decoder) (innerWriter : ℕ → Encoder) → ((row : ℕ) → Twins m (layouts row .size) (inner row) (innerWriter row)) → (row : ℕ) (type : FidlType)
         → Twins m (layoutAs (m .table) layouts type .size) (W.decodeAs m d layouts inner row type) (R.encodeAs (m .table) e layouts innerWriter type)
     unfolding layoutAs W.decodeAs R.encodeAs
-    twins-as layouts inner innerWriter a row bool = twins-size m refl (twins-record m (number-twins m oct 1 boolPattern) (λ at v. twins-nothing m))
+    twins-as layouts inner innerWriter a row bool = twins-number m oct 1 boolPattern
     twins-as layouts inner innerWriter a row (number width) = twins-word m oct width
     twins-as layouts inner innerWriter a row (handle optional) = twins-record m (presence-twins m oct 4 ones32 optional (omega arith) (omega arith)) twins-after-handle
     twins-as layouts inner innerWriter a row (array element count) = twins-elements m (layouts element .size) (λ i. inner element) (λ i. innerWriter element) (λ i. a element) 0 count
@@ -245,6 +245,8 @@ module _ (m : Message) (oct : Octets (m .bytes)) (short : length (m .bytes) ≤ 
     twins-as layouts inner innerWriter a row (table first count) = twins-record m (table-twins m oct) (twins-after-table g row (contentOf (m .table) first count))
     twins-as layouts inner innerWriter a row (union first count optional flexible) =
         twins-record m (number-twins m oct 8 (ordinalPattern (contentOf (m .table) first count) optional flexible)) (twins-after-union g row (contentOf (m .table) first count))
+    twins-as layouts inner innerWriter a row (strictEnum width first count) = twins-number m oct width (enumPattern (m .table) first count)
+    twins-as layouts inner innerWriter a row (strictBits width mask) = twins-number m oct width (bitsPattern (m .table) mask)
     twins-as layouts inner innerWriter a row none = twins-refuse m 0 (fault tableNotSound (Row row)) tableNotSound
 
     twins-below : (bound row : ℕ) → Twins m (layoutBelow (m .table) bound row .size) (W.decodeBelow m d bound row) (R.encodeBelow (m .table) e bound row)

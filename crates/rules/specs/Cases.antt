@@ -57,6 +57,7 @@ padTable =
     typeTable
     (2 ∷ 1 ∷ 0 ∷ 0 ∷ 2 ∷ 2 ∷ 0 ∷ 0 ∷ 6 ∷ 0 ∷ 8 ∷ 1 ∷ 7 ∷ 0 ∷ 2 ∷ 0 ∷ 9 ∷ 2 ∷ 3 ∷ 0 ∷ [])
     (1 ∷ 1 ∷ 2 ∷ 1 ∷ 1 ∷ 0 ∷ 2 ∷ 3 ∷ 3 ∷ 2 ∷ [])
+    []
 
 abbrev pub present : List ℕ
 present = replicate 8 0xFF
@@ -82,7 +83,7 @@ p6 = set p1 0 4 ++ (eightZeros ++ ((0x08 ∷ 0 ∷ 0 ∷ 0 ∷ 0 ∷ 0 ∷ 0 ∷
 
 -- "Rows `8,1,0,0` and `7,0,1,0`, member `1,0`, root 1": so many linked objects, a present box in each but the last.
 abbrev pub linkedTable : TypeTable
-linkedTable = typeTable (8 ∷ 1 ∷ 0 ∷ 0 ∷ 7 ∷ 0 ∷ 1 ∷ 0 ∷ []) (1 ∷ 0 ∷ [])
+linkedTable = typeTable (8 ∷ 1 ∷ 0 ∷ 0 ∷ 7 ∷ 0 ∷ 1 ∷ 0 ∷ []) (1 ∷ 0 ∷ []) []
 
 abbrev pub linked : (objects : ℕ) → List ℕ
 linked objects = replicate ((objects - 1) * 8) 0xFF ++ eightZeros
@@ -130,7 +131,7 @@ CasesHold = map outcome cases ≡ map expected cases
 -- Tables within tables: row 0 is a table whose one member is that table again. A table's pointer takes one level and its
 -- envelope another, so 16 tables are the most.
 abbrev pub nestedTable : TypeTable
-nestedTable = typeTable (9 ∷ 0 ∷ 1 ∷ 0 ∷ []) (1 ∷ 0 ∷ [])
+nestedTable = typeTable (9 ∷ 0 ∷ 1 ∷ 0 ∷ []) (1 ∷ 0 ∷ []) []
 
 abbrev pub nested : (inner : ℕ) → List ℕ
 nested zero = eightZeros ++ present
@@ -138,7 +139,7 @@ nested (suc inner) = bytesOf 8 1 ++ (present ++ (bytesOf 8 (16 + inner * 24) ++ 
 
 -- A struct with an optional vector of bytes, as a root (2) and as a member of a table (3).
 abbrev pub vectorTable : TypeTable
-vectorTable = typeTable (2 ∷ 1 ∷ 0 ∷ 0 ∷ 5 ∷ 0 ∷ 10 ∷ 1 ∷ 7 ∷ 0 ∷ 1 ∷ 0 ∷ 9 ∷ 1 ∷ 1 ∷ 0 ∷ []) (1 ∷ 1 ∷ 1 ∷ 2 ∷ [])
+vectorTable = typeTable (2 ∷ 1 ∷ 0 ∷ 0 ∷ 5 ∷ 0 ∷ 10 ∷ 1 ∷ 7 ∷ 0 ∷ 1 ∷ 0 ∷ 9 ∷ 1 ∷ 1 ∷ 0 ∷ []) (1 ∷ 1 ∷ 1 ∷ 2 ∷ []) []
 
 abbrev pub vectorMember : (byteNumber : ℕ) → List ℕ
 vectorMember byteNumber = bytesOf 8 1 ++ (present ++ (bytesOf 8 byteNumber ++ (bytesOf 8 1 ++ (present ++ bytesOf 8 7))))
@@ -189,7 +190,7 @@ unknownFourth handles = set p1 0 4 ++ (eightZeros ++ unknownHere handles)
 
 -- Unions within unions: row 0 is a flexible union whose one member is that union again. The innermost one's ordinal is unknown.
 abbrev pub unionTable : TypeTable
-unionTable = typeTable (10 ∷ 0 ∷ 1 ∷ 2 ∷ []) (1 ∷ 0 ∷ [])
+unionTable = typeTable (10 ∷ 0 ∷ 1 ∷ 2 ∷ []) (1 ∷ 0 ∷ []) []
 
 abbrev pub unionsAround : (outer handles : ℕ) → List ℕ
 unionsAround zero handles = bytesOf 8 2 ++ unknownHere handles
@@ -199,6 +200,20 @@ unionsAround (suc outer) handles = bytesOf 8 1 ++ (bytesOf 8 (16 + outer * 16) +
 abbrev pub named : (count : ℕ) (object : List ℕ) → List ℕ
 named count object =
     bytesOf 8 3 ++ (present ++ (eightZeros ++ (eightZeros ++ (bytesOf 8 (16 + length object) ++ (bytesOf 8 count ++ (present ++ object))))))
+
+-- W-206: a struct (2) of a strict enum of a byte with 14 entries (0), and of strict bits of two bytes, whose mask comes after them (1).
+abbrev pub strictTable : (entries : List ℕ) → TypeTable
+strictTable entries = typeTable (11 ∷ 1 ∷ 0 ∷ 14 ∷ 12 ∷ 2 ∷ 14 ∷ 1 ∷ 7 ∷ 0 ∷ 2 ∷ 0 ∷ []) (1 ∷ 0 ∷ 2 ∷ 1 ∷ []) entries
+
+-- Thirteen buttons, one more, and the mask.
+abbrev pub buttons : (last mask : ℕ) → List ℕ
+buttons last mask = 1 ∷ 2 ∷ 3 ∷ 4 ∷ 5 ∷ 6 ∷ 7 ∷ 8 ∷ 9 ∷ 10 ∷ 11 ∷ 12 ∷ 13 ∷ last ∷ mask ∷ []
+
+abbrev pub pad : TypeTable
+pad = strictTable (buttons 14 0x0103)
+
+abbrev pub pressed : (button low high : ℕ) → List ℕ
+pressed button low high = button ∷ 0 ∷ low ∷ high ∷ 0 ∷ 0 ∷ 0 ∷ 0 ∷ []
 
 abbrev pub requests : List Case
 requests =
@@ -234,6 +249,25 @@ requests =
     -- "The number, its order and the writer's 26 stay": fill before text, 26 at the count.
     ∷ checks padTable 4 (named 3 (0x41 ∷ 0xC3 ∷ 0x28 ∷ 0 ∷ 0 ∷ 0 ∷ 0 ∷ 1 ∷ [])) 0 7 63
     ∷ writes padTable 4 (3 ∷ 0 ∷ 0 ∷ 1 ∷ 4 ∷ 0x41 ∷ 0xC3 ∷ 0x28 ∷ []) 26 4
+    -- W-206: "A pad sent button 19 of 14": 29 "at the field"
+    ∷ checks pad 2 (pressed 14 2 1) 0 0 0
+    ∷ checks pad 2 (pressed 19 2 1) 0 29 0
+    -- "or with a bit outside the mask"
+    ∷ checks pad 2 (pressed 14 4 1) 0 29 2
+    ∷ writes pad 2 (5 ∷ 0x0103 ∷ []) 0 0
+    ∷ writes pad 2 (19 ∷ 0x0103 ∷ []) 26 0
+    ∷ writes pad 2 (5 ∷ 0x0200 ∷ []) 26 1
+    -- "a bad entry makes the row unsound": one that doesn't rise, is wider than its row, or doesn't exist
+    ∷ writes (strictTable (buttons 13 0x0103)) 2 [] 1 0
+    ∷ writes (strictTable (buttons 256 0x0103)) 2 [] 1 0
+    ∷ writes (strictTable (buttons 14 0x10000)) 2 [] 1 1
+    ∷ writes (strictTable (replicate 14 0)) 2 [] 1 0
+    ∷ writes (typeTable (12 ∷ 1 ∷ 0 ∷ 1 ∷ []) [] []) 0 [] 1 0
+    -- neither kind may be a root
+    ∷ writes pad 0 [] 2 0
+    ∷ writes pad 1 [] 2 1
+    -- "at most 1,024"
+    ∷ writes (strictTable (replicate 1025 0)) 2 [] 1 256
     ∷ []
 
 abbrev pub RequestsHold : Type 0

@@ -1,13 +1,14 @@
 -- Records that stand in line and hold one value number: numbers, presences, counts. Each is read and written.
 -- Assumes nothing.
-use mathlib.Core.Bool.{Bool, true, false}
+use mathlib.Core.Bool.{Bool, true, false, _||_}
 use mathlib.Core.List.{List, _++_}
 use Prim.Native.Nat.{ℕ, zero, suc, _+_, _^_}
 use lib.Dec.{leb, ltb, eqb}
+use lib.Bits.{bitAnd}
 use Rattle.rules.specs.declared.Place.the-variants.{Byte}
-use Rattle.rules.specs.Refusals.{if_then_else_, fault, boolNotZeroOrOne, presenceWrong, requiredAbsent, absentNotZero, countOverLargest, ordinalUnknown}
+use Rattle.rules.specs.Refusals.{if_then_else_, fault, boolNotZeroOrOne, presenceWrong, requiredAbsent, absentNotZero, countOverLargest, ordinalUnknown, strictValueUnknown}
 use Rattle.rules.specs.Bytes.{word, bytesOf, ones64}
-use Rattle.rules.specs.TypeTable.{Content, known, unknown}
+use Rattle.rules.specs.TypeTable.{TypeTable, entryIn, entryAt, Content, known, unknown}
 use Rattle.rules.specs.Decode.{Message, ReadRecord, got, wrong}
 use Rattle.rules.specs.Encode.{WriteRecord, put, unfit}
 
@@ -36,6 +37,21 @@ anyPattern v = passes
 -- 8
 abbrev pub boolPattern : ℕ → Judged
 boolPattern v = unless boolNotZeroOrOne (leb v 1)
+
+-- W-206, 29: "value not among the entries" of a strict enum,
+unfoldable pub amongEntries : (entries : List ℕ) (first count value : ℕ) → Bool
+amongEntries entries first zero v = false
+amongEntries entries first (suc count) v = eqb (entryIn entries first) v || amongEntries entries (suc first) count v
+
+abbrev pub enumPattern : TypeTable → (first count : ℕ) → ℕ → Judged
+enumPattern t first count v = unless strictValueUnknown (amongEntries (t .entries) first count v)
+
+-- "or with a bit outside the mask" of strict bits.
+abbrev pub withinMask : (mask value : ℕ) → Bool
+withinMask mask v = eqb (bitAnd v mask) v
+
+abbrev pub bitsPattern : TypeTable → (mask : ℕ) → ℕ → Judged
+bitsPattern t mask v = unless strictValueUnknown (withinMask (entryAt t mask) v)
 
 -- A union's ordinal: 0 is absent (10), another is known, or the union is flexible (17).
 abbrev pub isKnown : Content → Bool

@@ -123,6 +123,10 @@ notAValue = 26
 abbrev pub handleNumberWrong : ℕ
 handleNumberWrong = 28
 
+-- a strict enum's value is not among its entries, or strict bits have one outside their mask
+abbrev pub strictValueUnknown : ℕ
+strictValueUnknown = 29
+
 -- unknown content claims more handles than its payload has room for
 abbrev pub handlesImpossible : ℕ
 handlesImpossible = 35

@@ -4,7 +4,7 @@ use mathlib.Core.List.{List, [], _∷_}
 use Prim.Native.Nat.{ℕ, _+_, _-_, _*_, max}
 use Rattle.rules.specs.declared.Layout.{Layout}
 use Rattle.rules.specs.Bytes.{roundUp}
-use Rattle.rules.specs.TypeTable.{TypeTable, envelopeSize, FidlType, bool, number, handle, array, vector, string, struct, box, table, union, none, typeOf, memberRows, below}
+use Rattle.rules.specs.TypeTable.{TypeTable, envelopeSize, FidlType, bool, number, handle, array, vector, string, struct, box, table, union, strictEnum, strictBits, none, typeOf, memberRows, below}
 
 abbrev pub layout : (size alignment : ℕ) → Layout
 layout size alignment = record { size = size; alignment = alignment }
@@ -53,6 +53,7 @@ structSize inner (f ∷ fields) = fieldsSize inner (f ∷ fields)
 
 -- "Bool 1. Number a. Handle 4. Box 8. Vector, string, table and union 16" (a union is its ordinal and an envelope).
 -- "Alignment is the size for the first three and 8 for the rest. Array: count times element size, element's alignment."
+-- W-206: "Sizes and value numbers are as for kind 2".
 unfoldable pub layoutAs : TypeTable → (inner : ℕ → Layout) → FidlType → Layout
 unfolding largestAlignment fieldsOf structSize envelopeSize memberRows
 layoutAs t inner bool = layout 1 1
@@ -66,6 +67,8 @@ layoutAs t inner (struct first count) =
 layoutAs t inner (box element) = layout 8 8
 layoutAs t inner (table first count) = layout 16 8
 layoutAs t inner (union first count optional flexible) = layout (8 + envelopeSize (t .edition)) 8
+layoutAs t inner (strictEnum width first count) = layout width width
+layoutAs t inner (strictBits width mask) = layout width width
 layoutAs t inner none = layout 0 1
 
 abbrev pub layoutStep : TypeTable → (ℕ → Layout) → ℕ → Layout

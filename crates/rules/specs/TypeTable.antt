@@ -1,4 +1,4 @@
--- The type table: rows, the ten kinds, members and ordinals, and recursion over rows.
+-- The type table: rows, the twelve kinds, members and ordinals, entries, and recursion over rows.
 -- Assumes nothing.
 use mathlib.Core.Bool.{Bool}
 use mathlib.Core.List.{List, [], _∷_}
@@ -15,23 +15,25 @@ pub data Edition : Type 0 where
 unfoldable pub envelopeSize : Edition → ℕ
 envelopeSize eightByteEnvelopes = 8
 
--- "Two lent lists of 32-bit numbers. A row is four: kind, a, b, c. A member is two: ordinal, row."
+-- "Two lent lists of 32-bit numbers. A row is four: kind, a, b, c. A member is two: ordinal, row." W-206: "Entries stand in a
+-- third list of the type table, 64-bit patterns, at most 1,024".
 pub record TypeTable : Type 0 where
   pub rows : List ℕ
   pub members : List ℕ
+  pub entries : List ℕ
   pub edition : Edition
 
-abbrev pub typeTable : List ℕ → List ℕ → TypeTable
-typeTable rows members = record { rows = rows; members = members; edition = eightByteEnvelopes }
+abbrev pub typeTable : (rows members entries : List ℕ) → TypeTable
+typeTable rows members entries = record { rows = rows; members = members; entries = entries; edition = eightByteEnvelopes }
 
--- Rows and members count from 0.
+-- Rows, members and entries count from 0.
 abbrev pub rowCount : TypeTable → ℕ
 rowCount t = length (t .rows) / 4
 
 abbrev pub memberCount : TypeTable → ℕ
 memberCount t = length (t .members) / 2
 
--- The four numbers of a row and the two of a member, by the list that they stand in; past its end stands 0.
+-- The four numbers of a row, the two of a member and an entry, by the list that they stand in; past its end stands 0.
 abbrev pub kindIn : (rows : List ℕ) (row : ℕ) → ℕ
 kindIn rows row = getD rows (row * 4) 0
 
@@ -49,6 +51,9 @@ ordinalIn members member = getD members (member * 2) 0
 
 abbrev pub rowIn : (members : List ℕ) (member : ℕ) → ℕ
 rowIn members member = getD members (member * 2 + 1) 0
+
+abbrev pub entryIn : (entries : List ℕ) (entry : ℕ) → ℕ
+entryIn entries entry = getD entries entry 0
 
 abbrev pub kindAt : TypeTable → ℕ → ℕ
 kindAt t row = kindIn (t .rows) row
@@ -68,7 +73,10 @@ ordinalAt t member = ordinalIn (t .members) member
 abbrev pub rowOf : TypeTable → ℕ → ℕ
 rowOf t member = rowIn (t .members) member
 
--- What a row says, kind by kind; `first` and `count` name members.
+abbrev pub entryAt : TypeTable → ℕ → ℕ
+entryAt t entry = entryIn (t .entries) entry
+
+-- What a row says, kind by kind; `first` and `count` name members, or the entries of a strict enum.
 pub data FidlType : Type 0 where
   bool : FidlType
   number : (width : ℕ) → FidlType
@@ -80,9 +88,13 @@ pub data FidlType : Type 0 where
   box : (element : ℕ) → FidlType
   table : (first count : ℕ) → FidlType
   union : (first count : ℕ) (optional flexible : Bool) → FidlType
+  strictEnum : (width first count : ℕ) → FidlType
+  strictBits : (width mask : ℕ) → FidlType
   none : FidlType
 
--- Document 01's table of kinds, a line each. A union's c is 1 for optional, 2 for flexible, 3 for both.
+-- Document 01's table of kinds, a line each. A union's c is 1 for optional, 2 for flexible, 3 for both. W-206: "11, a strict
+-- enum (a is the width, b and c name a first entry and a number of entries, at least one), and 12, strict bits (a is the
+-- width, b the entry that is the mask, c is 1)".
 abbrev pub typeAs : (kind a b c : ℕ) → FidlType
 typeAs kind a b c =
     if eqb kind 1 then bool else
@@ -94,7 +106,9 @@ typeAs kind a b c =
     (if eqb kind 7 then struct a b else
     (if eqb kind 8 then box a else
     (if eqb kind 9 then table a b else
-    (if eqb kind 10 then union a b (eqb (c % 2) 1) (eqb (c / 2) 1) else none)))))))))
+    (if eqb kind 10 then union a b (eqb (c % 2) 1) (eqb (c / 2) 1) else
+    (if eqb kind 11 then strictEnum a b c else
+    (if eqb kind 12 then strictBits a b else none)))))))))))
 
 unfoldable pub typeOf : TypeTable → ℕ → FidlType
 typeOf t row = typeAs (kindAt t row) (aAt t row) (bAt t row) (cAt t row)

@@ -9,12 +9,12 @@ use Rattle.rules.specs.declared.Fault.{Fault}
 use Rattle.rules.specs.declared.Layout.{Layout}
 use Rattle.rules.specs.Refusals.{fault, tableNotSound, textNotUtf8}
 use Rattle.rules.specs.Bytes.{ones32, ones64}
-use Rattle.rules.specs.TypeTable.{envelopeSize, FidlType, bool, number, handle, array, vector, string, struct, box, table, union, none, typeOf, memberRows, Content, contentOf, below}
+use Rattle.rules.specs.TypeTable.{envelopeSize, FidlType, bool, number, handle, array, vector, string, struct, box, table, union, strictEnum, strictBits, none, typeOf, memberRows, Content, contentOf, below}
 use Rattle.rules.specs.Sizes.{Field, field, fieldsOf, layoutBelow, sizeOf}
 use Rattle.rules.specs.Text.{isUtf8, brokenAt}
 use Rattle.rules.specs.Trace.{presentHandle, vectorObject, boxedObject, envelopesObject}
 use Rattle.rules.specs.Decode.{Message, Decoder, nothing, refuse, sequence, elements, recordThen, checked, Deeper, spent, deeper, oneDeeper, fill, claim, takeHandles, optionalEnvelope, lastPresent, zeroEnvelope, presentEnvelope}
-use Rattle.rules.specs.Records.{boolPattern, ordinalPattern, readNumber, readPresence, readCount, readTable}
+use Rattle.rules.specs.Records.{boolPattern, enumPattern, bitsPattern, ordinalPattern, readNumber, readPresence, readCount, readTable}
 use Rattle.rules.specs.Envelope.{decodeWord, decodeContent}
 
 -- 13. W-201: its place "becomes the offset of the first byte of the first sequence that RFC 3629 doesn't allow"; the text starts
@@ -88,6 +88,8 @@ module _ (m : Message) where
   decodeAs deep layouts inner row (table first count) = recordThen 16 (readTable m) (afterTable deep row (contentOf (m .table) first count))
   decodeAs deep layouts inner row (union first count optional flexible) =
       recordThen 8 (readNumber m 8 (ordinalPattern (contentOf (m .table) first count) optional flexible)) (afterUnion deep row (contentOf (m .table) first count))
+  decodeAs deep layouts inner row (strictEnum width first count) = recordThen width (readNumber m width (enumPattern (m .table) first count)) (λ at v. nothing)
+  decodeAs deep layouts inner row (strictBits width mask) = recordThen width (readNumber m width (bitsPattern (m .table) mask)) (λ at v. nothing)
   decodeAs deep layouts inner row none = refuse (fault tableNotSound (Row row))
 
   abbrev pub noRow : Decoder

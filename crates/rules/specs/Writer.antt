@@ -7,11 +7,11 @@ use lib.Dec.{eqb}
 use Rattle.rules.specs.declared.Layout.{Layout}
 use Rattle.rules.specs.Refusals.{tableNotSound}
 use Rattle.rules.specs.Bytes.{ones32, ones64}
-use Rattle.rules.specs.TypeTable.{TypeTable, envelopeSize, FidlType, bool, number, handle, array, vector, string, struct, box, table, union, none, typeOf, memberRows, Content, contentOf, below}
+use Rattle.rules.specs.TypeTable.{TypeTable, envelopeSize, FidlType, bool, number, handle, array, vector, string, struct, box, table, union, strictEnum, strictBits, none, typeOf, memberRows, Content, contentOf, below}
 use Rattle.rules.specs.Sizes.{Field, field, fieldsOf, layoutBelow, sizeOf}
 use Rattle.rules.specs.Text.{isUtf8}
 use Rattle.rules.specs.Encode.{Encoder, nothing, refuse, sequence, elements, recordThen, checked, Deeper, spent, deeper, oneDeeper, fill, claim, takeHandles, optionalEnvelope}
-use Rattle.rules.specs.Records.{boolPattern, ordinalPattern, writeNumber, writePresence, writeCount, writeTable}
+use Rattle.rules.specs.Records.{boolPattern, enumPattern, bitsPattern, ordinalPattern, writeNumber, writePresence, writeCount, writeTable}
 use Rattle.rules.specs.Envelope.{encodeWord, encodeContent}
 
 -- "Struct and array: their parts in turn."
@@ -70,6 +70,8 @@ module _ (t : TypeTable) where
   encodeAs deep layouts inner (table first count) = recordThen writeTable (afterTable deep (contentOf t first count))
   encodeAs deep layouts inner (union first count optional flexible) =
       recordThen (writeNumber 8 (ordinalPattern (contentOf t first count) optional flexible)) (afterUnion deep (contentOf t first count))
+  encodeAs deep layouts inner (strictEnum width first count) = recordThen (writeNumber width (enumPattern t first count)) (λ v. nothing)
+  encodeAs deep layouts inner (strictBits width mask) = recordThen (writeNumber width (bitsPattern t mask)) (λ v. nothing)
   encodeAs deep layouts inner none = refuse tableNotSound
 
   abbrev pub encodeStep : Deeper → (ℕ → Encoder) → ℕ → Encoder

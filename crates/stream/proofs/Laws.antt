@@ -12,7 +12,7 @@ use lib.ListN.{length, drop, getD, set, length-set, length-drop, drop-of-length-
 use lib.Seq.{sets, drop-cons, set-out, length-take-le}
 use Rattle.rules.specs.Refusals.{if_then_else_}
 use Rattle.rules.proofs.Tests.{both}
-use Rattle.stream.specs.Numbers.{isDigit, withDigit, numbersOf, lineLength, LineRead, listAt, startAt, narrowed, Narrows, TablePut, sameNumbers}
+use Rattle.stream.specs.Numbers.{isDigit, withDigit, numbersOf, lineLength, LineRead, listAt, startAt, narrowed, Narrows, thirdPlace, TablePut, sameNumbers}
 
 -- ---- a line
 
@@ -204,15 +204,17 @@ start-past numbers at start past = simp (lt-leb at (length numbers) past)
 -- ---- a type table
 
 pub table-put :
-    (numbers : List ℕ) {row-list member-list rows members rows′ members′ : List ℕ} {row-count member-count next : ℕ} →
-    row-list ≡ listAt numbers 0 → member-list ≡ listAt numbers (1 + length row-list) →
+    (numbers : List ℕ) {row-list member-list entry-list rows members rows′ members′ : List ℕ} {row-count member-count entries next : ℕ} →
+    row-list ≡ listAt numbers 0 → member-list ≡ listAt numbers (1 + length row-list) → entry-list ≡ listAt numbers entries →
     Narrows 4294967296 row-list rows row-count rows′ → Narrows 4294967296 member-list members member-count members′ →
-    next ≡ 1 + length row-list + 1 + length member-list → next < 4611686018427387904 →
-    TablePut numbers rows members row-count member-count next rows′ members′
-table-put numbers row-list-is member-list-is rows-put members-put passed near =
+    entries ≡ 1 + length row-list + 1 + length member-list → next ≡ entries + 1 + length entry-list → next < 4611686018427387904 →
+    TablePut numbers rows members row-count member-count entries next rows′ members′
+table-put numbers {row-list} {member-list} {entry-list} {entries = entries} {next = next} row-list-is member-list-is entry-list-is rows-put members-put third passed near =
+    let third-is : entries ≡ thirdPlace numbers = rw (member-list-is, row-list-is) at third in
     record {
       rows-put = rw row-list-is at rows-put;
       members-put = rw (member-list-is, row-list-is) at members-put;
-      passed = rw (member-list-is, row-list-is) at passed;
+      third = third-is;
+      passed = rw (entry-list-is, third-is) at passed;
       near = near;
     }

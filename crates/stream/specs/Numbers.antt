@@ -56,16 +56,23 @@ pub record Narrows (limit : ℕ) (numbers lent : List ℕ) (count : ℕ) (after 
   pub counted : count ≡ min (length numbers) (length lent)
   pub put : after ≡ sets lent 0 (narrowed limit numbers)
 
--- Where the second of two lists stands.
+-- Where the second and the third of three lists stand, and what comes after them.
 abbrev pub secondPlace : List ℕ → ℕ
 secondPlace numbers = 1 + length (listAt numbers 0)
 
+abbrev pub thirdPlace : List ℕ → ℕ
+thirdPlace numbers = secondPlace numbers + 1 + length (listAt numbers (secondPlace numbers))
+
+abbrev pub afterThird : List ℕ → ℕ
+afterThird numbers = thirdPlace numbers + 1 + length (listAt numbers (thirdPlace numbers))
+
 -- Putting a type table: the row list that stands first and the member list after it are stored in lists of words that were
--- lent; the numbers after both start at a place so near that it can be counted on from there.
-pub record TablePut (numbers rows members : List ℕ) (row-count member-count next : ℕ) (rows′ members′ : List ℕ) : Type 0 where
+-- lent; the entries stand third; the numbers after them start at a place so near that it can be counted on from there.
+pub record TablePut (numbers rows members : List ℕ) (row-count member-count entries next : ℕ) (rows′ members′ : List ℕ) : Type 0 where
   pub rows-put : Narrows 4294967296 (listAt numbers 0) rows row-count rows′
   pub members-put : Narrows 4294967296 (listAt numbers (secondPlace numbers)) members member-count members′
-  pub passed : next ≡ secondPlace numbers + 1 + length (listAt numbers (secondPlace numbers))
+  pub third : entries ≡ thirdPlace numbers
+  pub passed : next ≡ afterThird numbers
   pub near : next < 4611686018427387904
 
 -- Are two lists of numbers equal?

@@ -7,13 +7,13 @@ ghost use lib.ListN.{length, take, drop, replicate};
 ghost use Rattle.stream.specs.Numbers.{isDigit, withDigit, LineRead, listAt, startAt, Narrows, TablePut, sameNumbers};
 
 // Room for a stream, and for the numbers of a line of it.
-pub const TEXT_ROOM: usize = 524288;
+pub const TEXT_ROOM: usize = 655360;
 
 pub const LINE_ROOM: usize = 16384;
 
 pub fn text_room() -> [u8; TEXT_ROOM]
-    ensures zeros { λ r. ⌜ r ≡ replicate 524288 0 ⌝ }
-    ensures long { λ r. ⌜ 524288 ≡ length r ⌝ }
+    ensures zeros { λ r. ⌜ r ≡ replicate 655360 0 ⌝ }
+    ensures long { λ r. ⌜ 655360 ≡ length r ⌝ }
 {
     [0; TEXT_ROOM]
 }
@@ -139,25 +139,30 @@ pub fn to_words(numbers: &[u64], words: &mut [u32]) -> usize
     at
 }
 
-// How many numbers of a row list and of a member list were put into lent lists, and where the numbers after both start.
+// How many numbers of a row list and of a member list were put into lent lists, where the entries stand, which need no list of their
+// own, and where the numbers after all three start.
 pub struct Table {
     pub rows: usize,
     pub members: usize,
+    pub entries: usize,
     pub next: usize,
 }
 
 // Puts the row list and the member list that stand first into lent lists.
 pub fn put_table(numbers: &[u64], rows: &mut [u32], members: &mut [u32]) -> Table
     ensures { λ r.
-        ⌜ TablePut (now (numbers .entry)) (now (rows .entry)) (now (members .entry)) (r .rows) (r .members) (r .next) (now (rows .exit)) (now (members .exit)) ⌝ }
+        ⌜ TablePut (now (numbers .entry)) (now (rows .entry)) (now (members .entry)) (r .rows) (r .members) (r .entries) (r .next) (now (rows .exit)) (now (members .exit)) ⌝ }
 {
     let row_list = list(numbers, 0);
     let at_members = 1 + row_list.len();
     let member_list = list(numbers, at_members);
+    let at_entries = at_members + 1 + member_list.len();
+    let entry_list = list(numbers, at_entries);
     Table {
         rows: to_words(row_list, rows),
         members: to_words(member_list, members),
-        next: at_members + 1 + member_list.len(),
+        entries: at_entries,
+        next: at_entries + 1 + entry_list.len(),
     }
 }
 

@@ -1,7 +1,7 @@
 // The numbers of a type table by name: a row's kind, a, b and c, a member's ordinal and row. What a list does not have is 0, so
 // any row and any member may be asked for.
 ghost use mathlib.Core.Path.{_≡_};
-ghost use Prim.Native.Nat.{_+_, _*_};
+ghost use Prim.Native.Nat.{_+_, _*_, _<_};
 ghost use lib.ListN.{getD};
 ghost use Rattle.rules.specs.TypeTable.{kindIn, aIn, bIn, cIn, ordinalIn, rowIn};
 
@@ -41,30 +41,33 @@ pub fn row_of(members: &[u32], member: usize) -> u32
     member_cell(members, member, 1)
 }
 
-// A row is four numbers. A row so far past the end that its place could not be counted is met first.
+// A row is four numbers. A row so far past any list that its place could not be counted is met first: of a row that was read from
+// 32 bits the compiler knows that it is not.
 fn cell(rows: &[u32], row: usize, number: usize) -> u32
+    requires { ⌜ number < 4 ⌝ }
     ensures { λ r. ⌜ r ≡ getD (now (rows .entry)) (row * 4 + number) 0 ⌝ }
 {
-    if rows.len() / 4 < row {
+    if 4611686018427387904 <= row {
         return 0;
     }
-    let start = row * 4;
-    if rows.len() - start <= number {
+    let at = row * 4 + number;
+    if rows.len() <= at {
         return 0;
     }
-    rows[start + number]
+    rows[at]
 }
 
 // A member is two.
 fn member_cell(members: &[u32], member: usize, number: usize) -> u32
+    requires { ⌜ number < 2 ⌝ }
     ensures { λ r. ⌜ r ≡ getD (now (members .entry)) (member * 2 + number) 0 ⌝ }
 {
-    if members.len() / 2 < member {
+    if 9223372036854775808 <= member {
         return 0;
     }
-    let start = member * 2;
-    if members.len() - start <= number {
+    let at = member * 2 + number;
+    if members.len() <= at {
         return 0;
     }
-    members[start + number]
+    members[at]
 }

@@ -1,8 +1,8 @@
 -- The walk of a row, kind by kind, where the rows that it is made of are walked as rows themselves.
 -- Assumes nothing.
-use mathlib.Core.Bool.{true}
+use mathlib.Core.Bool.{true, _||_}
 use mathlib.Core.List.{List}
-use mathlib.Core.Path.{_≡_, refl, ap, ap₂, _∙_}
+use mathlib.Core.Path.{_≡_, refl, sym, ap, ap₂, fun-ext, _∙_}
 use Prim.Native.Nat.{ℕ, _/_, _%_, _<_}
 use lib.Dec.{eqb}
 use Rattle.rules.specs.declared.Layout.{Layout}
@@ -11,12 +11,14 @@ use Rattle.rules.specs.TypeTable.{kindAt, aAt, bAt, cAt, typeOf, memberRows, co
 use Rattle.rules.specs.Sizes.{Field, fieldsOf, layoutBelow, layoutOf, sizeOf}
 use Rattle.rules.specs.Decode as D
 use Rattle.rules.specs.Decode.{Message, Decoder}
-use Rattle.rules.specs.Records.{readCount, readPresence, readTable, readNumber, ordinalPattern}
+use Rattle.rules.specs.Records.{Judged, readCount, readPresence, readTable, readNumber, enumPattern, bitsPattern, ordinalPattern}
 use Rattle.rules.specs.Envelope.{decodeWord}
 use Rattle.rules.specs.Walk as W
 use Rattle.layout.proofs.Rows.{below-step, layout-below}
 use Rattle.layout.proofs.Below.{AllBelow, FieldsBelow, fields-same, fields-below}
-use Rattle.walk_leaves.specs.Parts.{boolAt, handleAt}
+use Rattle.strict.specs.Strict.{strictPattern}
+use Rattle.strict.proofs.Rows.{enum-or-bits, enum-pattern, bits-pattern}
+use Rattle.walk_leaves.specs.Parts.{boolAt, handleAt, strictAt}
 
 -- Rows below a row are walked as any.
 pub decode-below : (m : Message) (deep : D.Deeper) (bound row : ℕ) → row < bound → W.decodeBelow m deep bound row ≡ W.decodeRow m deep row
@@ -51,6 +53,28 @@ module _ (m : Message) (deep : D.Deeper) (row : ℕ) where
   pub decode-handle : kindAt (m .table) row ≡ 3 → W.decodeRow m deep row ≡ handleAt (eqb (aAt (m .table) row) 1) m
   unfolding W.decodeRow W.decodeAs typeOf handleAt
   decode-handle e = rw e
+
+  -- a number under a test, and the test is the strict one of the row
+  abbrev underTest : (ℕ → Judged) → Decoder
+  underTest judge = D.recordThen (aAt (m .table) row) (readNumber m (aAt (m .table) row) judge) (λ at v. D.nothing)
+
+  strict-as : {judge : ℕ → Judged} → ((v : ℕ) → strictPattern (m .table .rows) (m .table .entries) row v ≡ judge v)
+      → underTest judge ≡ strictAt (m .table .rows) (m .table .entries) row m
+  unfolding strictAt
+  strict-as same = ap underTest (sym (fun-ext same))
+
+  enum-as : kindAt (m .table) row ≡ 11 → W.decodeRow m deep row ≡ underTest (enumPattern (m .table) (bAt (m .table) row) (cAt (m .table) row))
+  unfolding W.decodeRow W.decodeAs typeOf
+  enum-as e = rw e
+
+  bits-as : kindAt (m .table) row ≡ 12 → W.decodeRow m deep row ≡ underTest (bitsPattern (m .table) (bAt (m .table) row))
+  unfolding W.decodeRow W.decodeAs typeOf
+  bits-as e = rw e
+
+  pub decode-strict : {k : ℕ} → k ≡ kindAt (m .table) row → (eqb k 11 || eqb k 12) ≡ true → W.decodeRow m deep row ≡ strictAt (m .table .rows) (m .table .entries) row m
+  decode-strict {k} e q =
+      enum-or-bits k (λ z. enum-as (sym e ∙ z) ∙ strict-as (enum-pattern (m .table) row (sym e ∙ z)))
+      (λ z. bits-as (sym e ∙ z) ∙ strict-as (bits-pattern (m .table) row (sym e ∙ z))) q
 
   array-as : kindAt (m .table) row ≡ 4
       → W.decodeRow m deep row ≡ D.elements (layoutBelow (m .table) row (aAt (m .table) row) .size) (λ i. W.decodeBelow m deep row (aAt (m .table) row)) 0 (bAt (m .table) row)

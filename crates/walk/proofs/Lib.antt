@@ -7,5 +7,6 @@ pub mod NoParts
 pub mod TableEnvelopes
 pub mod Rows
 pub mod Plans
+pub mod StrictRows
 pub mod Turns
 pub mod OneMember

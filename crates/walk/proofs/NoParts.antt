@@ -13,7 +13,8 @@ use Rattle.rules.specs.Decode as D
 use Rattle.rules.specs.Decode.{Message}
 use Rattle.rules.specs.Walk as W
 use Rattle.nesting.specs.Nesting.{hasParts}
-use Rattle.layout.specs.Ready.{Ready, widthAllowed}
+use Rattle.rules.specs.Sound.{widthAllowed}
+use Rattle.layout.specs.Ready.{Ready}
 use Rattle.layout.proofs.Below.{AllBelow}
 use Rattle.layout.proofs.ByKind.{size-array, size-string, number-width, width-positive, array-below}
 use Rattle.nesting.proofs.NoParts.{array-left, struct-empty, array-numbers, size-empty}

@@ -10,7 +10,8 @@ use lib.ListN.{length}
 use Rattle.rules.specs.TypeTable.{TypeTable, kindAt, aAt}
 use Rattle.rules.specs.Sizes.{sizeOf}
 use Rattle.rules.specs.Walk as W
-use Rattle.layout.specs.Ready.{Ready, widthAllowed}
+use Rattle.rules.specs.Sound.{widthAllowed}
+use Rattle.layout.specs.Ready.{Ready}
 use Rattle.layout.proofs.ByKind.{number-width, size-number, width-positive}
 use Rattle.walk_leaves.specs.declared.cursor.Cursor.{Cursor}
 use Rattle.walk_leaves.specs.declared.cursor.Walked.the-variants.{On}

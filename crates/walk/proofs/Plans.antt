@@ -20,7 +20,7 @@ use Rattle.walk_leaves.proofs.Reading.{reading, run-fields}
 use Rattle.walk.specs.Walking.{ValueDid, ElementsDid}
 use Rattle.walk.proofs.Rows.{rows-walked}
 
-any-handles : {total handles need at : ℕ} {c : Cursor} → Ask total handles need at c → Ask total 64 need at c
+pub any-handles : {total handles need at : ℕ} {c : Cursor} → Ask total handles need at c → Ask total 64 need at c
 any-handles a = record { short = a .short; few = omega arith; inside = a .inside; free = a .free; held = omega (arith, a .held, a .few); small = a .small }
 
 module _ {t : TypeTable} {sizes alignments : List ℕ} {depth row : ℕ} (ready : Ready t sizes alignments depth row) {plan : Plan} (made : plan ≡ planAs (planOf (t .rows) (t .members) alignments row)) (some : 0 < plan .count)

@@ -26,6 +26,7 @@ use walk_leaves::scalars::boolean;
 use walk_leaves::scalars::handle;
 use walk_leaves::scalars::number;
 use walk_leaves::scalars::numbers;
+use walk_leaves::strict_rows::strict_values;
 use walk_records::envelopes::Member;
 use walk_records::envelopes::known_opened;
 use walk_records::envelopes::sealed;
@@ -41,6 +42,7 @@ use walk_records::records::vector_opened;
 pub fn value(
     rows: &[u32],
     members: &[u32],
+    entries: &[u64],
     sizes: &[u32; 256],
     alignments: &[u32; 256],
     bytes: &[u8],
@@ -55,9 +57,9 @@ pub fn value(
     given: usize,
     listed: usize,
 ) -> Walked
-    requires { ⌜ Ready (typeTable (now rows) (now members)) (now sizes) (now alignments) depth row
-        × Ask (length (now bytes)) held (sizeOf (typeTable (now rows) (now members)) row) at (cursorAt next handles given listed) ⌝ }
-    ensures { λ r. ⌜ ValueDid (typeTable (now (rows .entry)) (now (members .entry))) (now (bytes .entry)) held depth (now (values .entry)) (now (values .exit)) (now (objects .entry)) (now (objects .exit)) at (cursorAt next handles given listed) row r ⌝ }
+    requires { ⌜ Ready (typeTable (now rows) (now members) (now entries)) (now sizes) (now alignments) depth row
+        × Ask (length (now bytes)) held (sizeOf (typeTable (now rows) (now members) (now entries)) row) at (cursorAt next handles given listed) ⌝ }
+    ensures { λ r. ⌜ ValueDid (typeTable (now (rows .entry)) (now (members .entry)) (now (entries .entry))) (now (bytes .entry)) held depth (now (values .entry)) (now (values .exit)) (now (objects .entry)) (now (objects .exit)) at (cursorAt next handles given listed) row r ⌝ }
 {
     let c = Cursor {
         next,
@@ -81,6 +83,7 @@ pub fn value(
             return composite(
                 rows,
                 members,
+                entries,
                 sizes,
                 alignments,
                 bytes,
@@ -106,9 +109,13 @@ pub fn value(
         let optional = table::c_at(rows, row);
         return string(bytes, values, objects, depth, row, largest, optional, at, c);
     }
+    if (kind == 11) | (kind == 12) {
+        return strict_values(rows, entries, bytes, values, row, 1, at, c);
+    }
     out_of_line(
         rows,
         members,
+        entries,
         sizes,
         alignments,
         bytes,
@@ -126,6 +133,7 @@ pub fn value(
 fn elements(
     rows: &[u32],
     members: &[u32],
+    entries: &[u64],
     sizes: &[u32; 256],
     alignments: &[u32; 256],
     bytes: &[u8],
@@ -138,13 +146,16 @@ fn elements(
     at: usize,
     c: Cursor,
 ) -> Walked
-    requires { ⌜ Ready (typeTable (now rows) (now members)) (now sizes) (now alignments) depth row × Ask (length (now bytes)) held (count * sizeOf (typeTable (now rows) (now members)) row) at c ⌝ }
-    ensures { λ r. ⌜ ElementsDid (typeTable (now (rows .entry)) (now (members .entry))) (now (bytes .entry)) held depth (now (values .entry)) (now (values .exit)) (now (objects .entry)) (now (objects .exit)) at c row count r ⌝ }
+    requires { ⌜ Ready (typeTable (now rows) (now members) (now entries)) (now sizes) (now alignments) depth row × Ask (length (now bytes)) held (count * sizeOf (typeTable (now rows) (now members) (now entries)) row) at c ⌝ }
+    ensures { λ r. ⌜ ElementsDid (typeTable (now (rows .entry)) (now (members .entry)) (now (entries .entry))) (now (bytes .entry)) held depth (now (values .entry)) (now (values .exit)) (now (objects .entry)) (now (objects .exit)) at c row count r ⌝ }
 {
     let kind = table::kind_at(rows, row);
     if kind == 2 {
         let width = table::a_at(rows, row);
         return Walked::On(numbers(bytes, values, width, count, at, c));
+    }
+    if (kind == 11) | (kind == 12) {
+        return strict_values(rows, entries, bytes, values, row, count, at, c);
     }
     let size = words::number_at(sizes, row) as usize;
     let plan = plans::plan_of(rows, members, alignments, row);
@@ -158,6 +169,7 @@ fn elements(
         match value(
             rows,
             members,
+            entries,
             sizes,
             alignments,
             bytes,
@@ -189,6 +201,7 @@ fn elements(
 fn composite(
     rows: &[u32],
     members: &[u32],
+    entries: &[u64],
     sizes: &[u32; 256],
     alignments: &[u32; 256],
     bytes: &[u8],
@@ -200,9 +213,9 @@ fn composite(
     at: usize,
     c: Cursor,
 ) -> Walked
-    requires { ⌜ Ready (typeTable (now rows) (now members)) (now sizes) (now alignments) depth row × (hasParts (now rows) row ≡ true)
-        × Ask (length (now bytes)) held (sizeOf (typeTable (now rows) (now members)) row) at c ⌝ }
-    ensures { λ r. ⌜ ValueDid (typeTable (now (rows .entry)) (now (members .entry))) (now (bytes .entry)) held depth (now (values .entry)) (now (values .exit)) (now (objects .entry)) (now (objects .exit)) at c row r ⌝ }
+    requires { ⌜ Ready (typeTable (now rows) (now members) (now entries)) (now sizes) (now alignments) depth row × (hasParts (now rows) row ≡ true)
+        × Ask (length (now bytes)) held (sizeOf (typeTable (now rows) (now members) (now entries)) row) at c ⌝ }
+    ensures { λ r. ⌜ ValueDid (typeTable (now (rows .entry)) (now (members .entry)) (now (entries .entry))) (now (bytes .entry)) held depth (now (values .entry)) (now (values .exit)) (now (objects .entry)) (now (objects .exit)) at c row r ⌝ }
 {
     // one of bools and numbers alone goes by a plan, which can be only where its first member is one of them
     let first = table::a_at(rows, row) as usize;
@@ -222,6 +235,7 @@ fn composite(
         match value(
             rows,
             members,
+            entries,
             sizes,
             alignments,
             bytes,
@@ -286,6 +300,7 @@ fn composite(
                 match value(
                     rows,
                     members,
+                    entries,
                     sizes,
                     alignments,
                     bytes,
@@ -326,6 +341,7 @@ fn composite(
 fn out_of_line(
     rows: &[u32],
     members: &[u32],
+    entries: &[u64],
     sizes: &[u32; 256],
     alignments: &[u32; 256],
     bytes: &[u8],
@@ -337,9 +353,9 @@ fn out_of_line(
     at: usize,
     c: Cursor,
 ) -> Walked
-    requires { ⌜ Ready (typeTable (now rows) (now members)) (now sizes) (now alignments) depth row × Outside (kindAt (typeTable (now rows) (now members)) row)
-        × Ask (length (now bytes)) held (sizeOf (typeTable (now rows) (now members)) row) at c ⌝ }
-    ensures { λ r. ⌜ ValueDid (typeTable (now (rows .entry)) (now (members .entry))) (now (bytes .entry)) held depth (now (values .entry)) (now (values .exit)) (now (objects .entry)) (now (objects .exit)) at c row r ⌝ }
+    requires { ⌜ Ready (typeTable (now rows) (now members) (now entries)) (now sizes) (now alignments) depth row × Outside (kindAt (typeTable (now rows) (now members) (now entries)) row)
+        × Ask (length (now bytes)) held (sizeOf (typeTable (now rows) (now members) (now entries)) row) at c ⌝ }
+    ensures { λ r. ⌜ ValueDid (typeTable (now (rows .entry)) (now (members .entry)) (now (entries .entry))) (now (bytes .entry)) held depth (now (values .entry)) (now (values .exit)) (now (objects .entry)) (now (objects .exit)) at c row r ⌝ }
 {
     let kind = table::kind_at(rows, row);
     let a = table::a_at(rows, row) as usize;
@@ -353,6 +369,7 @@ fn out_of_line(
             Opened::Open(x) => passed_on(elements(
                 rows,
                 members,
+                entries,
                 sizes,
                 alignments,
                 bytes,
@@ -375,6 +392,7 @@ fn out_of_line(
             Opened::Open(x) => passed_on(value(
                 rows,
                 members,
+                entries,
                 sizes,
                 alignments,
                 bytes,
@@ -398,6 +416,7 @@ fn out_of_line(
             Opened::Open(x) => passed_on(envelopes(
                 rows,
                 members,
+                entries,
                 sizes,
                 alignments,
                 bytes,
@@ -418,6 +437,7 @@ fn out_of_line(
         Member::Some(what, d) => passed_on(content(
             rows,
             members,
+            entries,
             sizes,
             alignments,
             bytes,
@@ -437,6 +457,7 @@ fn out_of_line(
 fn envelopes(
     rows: &[u32],
     members: &[u32],
+    entries: &[u64],
     sizes: &[u32; 256],
     alignments: &[u32; 256],
     bytes: &[u8],
@@ -449,8 +470,8 @@ fn envelopes(
     at: usize,
     c: Cursor,
 ) -> Walked
-    requires { ⌜ Ready (typeTable (now rows) (now members)) (now sizes) (now alignments) depth row × (kindAt (typeTable (now rows) (now members)) row ≡ 9) × Ask (length (now bytes)) held (count * 8) at c ⌝ }
-    ensures { λ r. ⌜ EnvelopesDid (typeTable (now (rows .entry)) (now (members .entry))) (now (bytes .entry)) held depth (now (values .entry)) (now (values .exit)) (now (objects .entry)) (now (objects .exit)) at c row count r ⌝ }
+    requires { ⌜ Ready (typeTable (now rows) (now members) (now entries)) (now sizes) (now alignments) depth row × (kindAt (typeTable (now rows) (now members) (now entries)) row ≡ 9) × Ask (length (now bytes)) held (count * 8) at c ⌝ }
+    ensures { λ r. ⌜ EnvelopesDid (typeTable (now (rows .entry)) (now (members .entry)) (now (entries .entry))) (now (bytes .entry)) held depth (now (values .entry)) (now (values .exit)) (now (objects .entry)) (now (objects .exit)) at c row count r ⌝ }
 {
     let first = table::a_at(rows, row) as usize;
     let known = table::b_at(rows, row) as usize;
@@ -470,6 +491,7 @@ fn envelopes(
             match content(
                 rows,
                 members,
+                entries,
                 sizes,
                 alignments,
                 bytes,
@@ -498,6 +520,7 @@ fn envelopes(
 fn content(
     rows: &[u32],
     members: &[u32],
+    entries: &[u64],
     sizes: &[u32; 256],
     alignments: &[u32; 256],
     bytes: &[u8],
@@ -510,8 +533,8 @@ fn content(
     at: usize,
     c: Cursor,
 ) -> Walked
-    requires { ⌜ Ready (typeTable (now rows) (now members)) (now sizes) (now alignments) depth row × OrdinalFits (typeTable (now rows) (now members)) what × Ask (length (now bytes)) held 7 at c ⌝ }
-    ensures { λ r. ⌜ ContentDid (typeTable (now (rows .entry)) (now (members .entry))) (now (bytes .entry)) held depth (now (values .entry)) (now (values .exit)) (now (objects .entry)) (now (objects .exit)) at c row what r ⌝ }
+    requires { ⌜ Ready (typeTable (now rows) (now members) (now entries)) (now sizes) (now alignments) depth row × OrdinalFits (typeTable (now rows) (now members) (now entries)) what × Ask (length (now bytes)) held 7 at c ⌝ }
+    ensures { λ r. ⌜ ContentDid (typeTable (now (rows .entry)) (now (members .entry)) (now (entries .entry))) (now (bytes .entry)) held depth (now (values .entry)) (now (values .exit)) (now (objects .entry)) (now (objects .exit)) at c row what r ⌝ }
 {
     match what {
         Ordinal::Unknown => unknown_content(bytes, held, values, objects, depth, row, at, c),
@@ -524,6 +547,7 @@ fn content(
                     match value(
                         rows,
                         members,
+                        entries,
                         sizes,
                         alignments,
                         bytes,

@@ -21,7 +21,7 @@ use Rattle.words.proofs.Loads.{word-byte}
 use Rattle.rules.proofs.Tests.{both}
 use Rattle.plans.specs.declared.Plan.{Plan}
 use Rattle.plans.specs.Plans.{partsSize, partsFrom, partsOf}
-use Rattle.layout.specs.Ready.{widthAllowed}
+use Rattle.rules.specs.Sound.{widthAllowed}
 use Rattle.walk_leaves.specs.declared.cursor.Cursor.{Cursor}
 use Rattle.walk_leaves.specs.declared.cursor.Walked.the-variants.{On}
 use Rattle.walk_leaves.specs.Doing.{message, Ask}

@@ -22,7 +22,7 @@ use Rattle.rules.specs.Records.{readNumber, presence, readPresence}
 use Rattle.rules.specs.Envelope.{decodeWord}
 use Rattle.words.proofs.Loads.{word-byte}
 use Rattle.words.proofs.Stores.{sets-past}
-use Rattle.layout.specs.Ready.{widthAllowed}
+use Rattle.rules.specs.Sound.{widthAllowed}
 use Rattle.layout.proofs.ByKind.{width-positive}
 use Rattle.walk_leaves.specs.declared.cursor.Cursor.{Cursor}
 use Rattle.walk_leaves.specs.declared.cursor.Walked.{Walked}

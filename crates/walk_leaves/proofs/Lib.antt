@@ -5,3 +5,4 @@ pub mod Objects
 pub mod Reading
 pub mod ByPlan
 pub mod Bools
+pub mod Strict

@@ -8,13 +8,14 @@ use lib.ListN.{length}
 use Rattle.rules.specs.declared.Place.the-variants.{Byte}
 use Rattle.rules.specs.Refusals.{fault, objectDoesNotFit}
 use Rattle.rules.specs.Bytes.{word, padded, ones32}
-use Rattle.rules.specs.TypeTable.{TypeTable}
+use Rattle.rules.specs.TypeTable.{TypeTable, aIn}
 use Rattle.rules.specs.Trace.{claimed}
 use Rattle.rules.specs.Decode as D
 use Rattle.rules.specs.Decode.{Message, went, Decoder}
 use Rattle.rules.specs.Records.{boolPattern, readNumber, readPresence}
 use Rattle.rules.specs.Envelope.{decodeWord}
 use Rattle.rules.specs.Walk as W
+use Rattle.strict.specs.Strict.{strictPattern}
 use Rattle.walk_leaves.specs.declared.cursor.Cursor.{Cursor}
 use Rattle.walk_leaves.specs.declared.cursor.Walked.{Walked}
 use Rattle.walk_leaves.specs.Doing.{message, Did}
@@ -29,6 +30,10 @@ handleAt optional m = D.recordThen 4 (readPresence m 4 ones32 optional) (W.after
 
 unfoldable pub numbersAt : (width count : ℕ) → Message → Decoder
 numbersAt width count m = D.elements width (λ i. decodeWord m width) 0 count
+
+-- A value of a strict enum or of strict bits.
+unfoldable pub strictAt : (rows entries : List ℕ) (row : ℕ) → Message → Decoder
+strictAt rows entries row m = D.recordThen (aIn rows row) (readNumber m (aIn rows row) (strictPattern rows entries row)) (λ at v. D.nothing)
 
 -- The numbers of one width that stand in line from a place on.
 unfoldable pub wordsFrom : (bytes : List ℕ) (width at count : ℕ) → List ℕ

@@ -3,3 +3,4 @@ pub mod claims;
 pub mod cursor;
 pub mod planned;
 pub mod scalars;
+pub mod strict_rows;

@@ -7,7 +7,7 @@ ghost use lib.ListN.{length};
 ghost use Rattle.rules.specs.Decode.{elements, fill};
 ghost use Rattle.rules.specs.Sizes.{field};
 ghost use Rattle.plans.specs.Plans.{partsSize, partsFrom, partsOf, Runnable};
-ghost use Rattle.layout.specs.Ready.{widthAllowed};
+ghost use Rattle.rules.specs.Sound.{widthAllowed};
 ghost use Rattle.walk_leaves.specs.Doing.{Ask};
 ghost use Rattle.walk_leaves.specs.Parts.{DidValues, DidNeither};
 ghost use Rattle.walk_leaves.specs.Planning.{widthAt, partsAt, DidAsked};

@@ -7,7 +7,7 @@ ghost use lib.ListN.{length};
 ghost use lib.Seq.{sets};
 ghost use Rattle.rules.specs.Bytes.{word};
 ghost use Rattle.rules.specs.Envelope.{decodeWord};
-ghost use Rattle.layout.specs.Ready.{widthAllowed};
+ghost use Rattle.rules.specs.Sound.{widthAllowed};
 ghost use Rattle.walk_leaves.specs.Parts.{boolAt, handleAt, numbersAt, wordsFrom, DidValues, DidHandles};
 use crate::cursor::Cursor;
 use crate::cursor::Walked;

@@ -25,7 +25,7 @@ use Rattle.rules.specs.Writer as R
 use Rattle.words.specs.Bits.{allBits}
 use Rattle.words.proofs.Bits.{part-none-above}
 use Rattle.words.proofs.Stores.{sets-append, sets-past, length-bytesOf, bytesOf-byte}
-use Rattle.layout.specs.Ready.{widthAllowed}
+use Rattle.rules.specs.Sound.{widthAllowed}
 use Rattle.write_leaves.specs.declared.cursor.Cursor.{Cursor}
 use Rattle.write_leaves.specs.declared.cursor.Wrote.{Wrote}
 use Rattle.write_leaves.specs.declared.cursor.Wrote.the-variants.{On, Refused}

@@ -6,3 +6,4 @@ pub mod Filling
 pub mod Leading
 pub mod Writing
 pub mod ByPlan
+pub mod Strict

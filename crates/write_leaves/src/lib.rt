@@ -2,3 +2,4 @@
 pub mod cursor;
 pub mod planned;
 pub mod scalars;
+pub mod strict_rows;

@@ -6,7 +6,7 @@ ghost use lib.Seq.{sets};
 ghost use Rattle.rules.specs.Bytes.{bytesOf, zeros};
 ghost use Rattle.rules.specs.Encode.{elements};
 ghost use Rattle.plans.specs.Plans.{widthSize, partsSize, partsFrom, partsOf, Runnable};
-ghost use Rattle.layout.specs.Ready.{widthAllowed};
+ghost use Rattle.rules.specs.Sound.{widthAllowed};
 ghost use Rattle.write_leaves.specs.Putting.{Stands, Ask, PutsInLine};
 ghost use Rattle.write_leaves.specs.Planning.{widthAs, partsAs, PutAsked};
 use crate::cursor::Cursor;
@@ -20,7 +20,7 @@ use crate::scalars::put_word;
 use plans::Plan;
 
 // A number of a width, and fill: past the output's end, where the pass that measures stores all, nothing is looked at.
-fn put_number(out: &mut [u8], width: u32, at: usize, v: u64)
+pub(crate) fn put_number(out: &mut [u8], width: u32, at: usize, v: u64)
     requires { ⌜ (widthAllowed width ≡ true) × (v < 256 ^ width) ⌝ }
     ensures { λ _. ⌜ now (out .exit) ≡ sets (now (out .entry)) at (bytesOf width v) ⌝ }
 {

@@ -8,7 +8,7 @@ ghost use lib.Seq.{sets};
 ghost use Rattle.rules.specs.Bytes.{bytesOf};
 ghost use Rattle.rules.specs.TypeTable.{TypeTable};
 ghost use Rattle.rules.specs.Envelope.{encodeWord};
-ghost use Rattle.layout.specs.Ready.{widthAllowed};
+ghost use Rattle.rules.specs.Sound.{widthAllowed};
 ghost use Rattle.write_leaves.specs.Putting.{Stands, PutsInLine};
 ghost use Rattle.write_leaves.specs.InLine.{boolAs, handleAs, numbersAs, NoneAbove};
 use crate::cursor::Cursor;

@@ -6,7 +6,7 @@ ghost use Prim.Native.Nat.{_+_, _-_, _*_, _≤_, _<_, min};
 ghost use lib.ListN.{length};
 ghost use lib.Seq.{sets};
 ghost use Rattle.rules.specs.Bytes.{zeros, padded};
-ghost use Rattle.layout.specs.Ready.{widthAllowed};
+ghost use Rattle.rules.specs.Sound.{widthAllowed};
 ghost use Rattle.write_leaves.specs.Putting.{Stands, Ask};
 ghost use Rattle.write_records.specs.Opening.{Claimed};
 ghost use Rattle.write_records.specs.Contracts.{HasCount, NotClosed, Reaches, ClaimOpens, DeeperOpens, NumbersPut, CountedOpens, StringPuts, BoxOpens, TableOpens};

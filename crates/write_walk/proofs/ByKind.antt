@@ -1,8 +1,8 @@
 -- The writer of a row, kind by kind, where the rows that it is made of are written as rows themselves.
 -- Assumes nothing.
-use mathlib.Core.Bool.{true}
+use mathlib.Core.Bool.{true, _||_}
 use mathlib.Core.List.{List}
-use mathlib.Core.Path.{_≡_, refl, ap, _∙_}
+use mathlib.Core.Path.{_≡_, refl, sym, ap, fun-ext, _∙_}
 use Prim.Native.Nat.{ℕ, _/_, _%_, _<_}
 use lib.Dec.{eqb}
 use Rattle.rules.specs.Bytes.{ones64}
@@ -11,12 +11,14 @@ use Rattle.rules.specs.TypeTable.{TypeTable, kindAt, aAt, bAt, cAt, typeOf, mem
 use Rattle.rules.specs.Sizes.{Field, fieldsFrom, fieldsOf, layoutBelow, layoutOf}
 use Rattle.rules.specs.Encode as E
 use Rattle.rules.specs.Encode.{Encoder}
-use Rattle.rules.specs.Records.{writeCount, writePresence, writeTable, writeNumber, ordinalPattern}
+use Rattle.rules.specs.Records.{Judged, writeCount, writePresence, writeTable, writeNumber, enumPattern, bitsPattern, ordinalPattern}
 use Rattle.rules.specs.Envelope.{encodeWord}
 use Rattle.rules.specs.Writer as R
 use Rattle.layout.proofs.Rows.{below-step}
 use Rattle.layout.proofs.Below.{AllBelow, FieldsBelow, fields-same, fields-below}
-use Rattle.write_leaves.specs.InLine.{boolAs, handleAs}
+use Rattle.strict.specs.Strict.{strictPattern}
+use Rattle.strict.proofs.Rows.{enum-or-bits, enum-pattern, bits-pattern}
+use Rattle.write_leaves.specs.InLine.{boolAs, handleAs, strictAs}
 
 module _ (t : TypeTable) (deep : E.Deeper) where
   -- Rows below a row are written as any.
@@ -50,6 +52,27 @@ module _ (t : TypeTable) (deep : E.Deeper) where
     pub encode-handle : kindAt t row ≡ 3 → R.encodeRow t deep row ≡ handleAs t (eqb (aAt t row) 1)
     unfolding R.encodeRow R.encodeAs typeOf handleAs
     encode-handle e = rw e
+
+    -- a number under a test, and the test is the strict one of the row
+    abbrev underTest : (ℕ → Judged) → Encoder
+    underTest judge = E.recordThen (writeNumber (aAt t row) judge) (λ v. E.nothing)
+
+    strict-as : {judge : ℕ → Judged} → ((v : ℕ) → strictPattern (t .rows) (t .entries) row v ≡ judge v) → underTest judge ≡ strictAs (t .rows) (t .entries) row
+    unfolding strictAs
+    strict-as same = ap underTest (sym (fun-ext same))
+
+    enum-as : kindAt t row ≡ 11 → R.encodeRow t deep row ≡ underTest (enumPattern t (bAt t row) (cAt t row))
+    unfolding R.encodeRow R.encodeAs typeOf
+    enum-as e = rw e
+
+    bits-as : kindAt t row ≡ 12 → R.encodeRow t deep row ≡ underTest (bitsPattern t (bAt t row))
+    unfolding R.encodeRow R.encodeAs typeOf
+    bits-as e = rw e
+
+    pub encode-strict : {k : ℕ} → k ≡ kindAt t row → (eqb k 11 || eqb k 12) ≡ true → R.encodeRow t deep row ≡ strictAs (t .rows) (t .entries) row
+    encode-strict {k} e q =
+        enum-or-bits k (λ z. enum-as (sym e ∙ z) ∙ strict-as (enum-pattern t row (sym e ∙ z)))
+        (λ z. bits-as (sym e ∙ z) ∙ strict-as (bits-pattern t row (sym e ∙ z))) q
 
     array-as : kindAt t row ≡ 4 → R.encodeRow t deep row ≡ E.elements (λ i. R.encodeBelow t deep row (aAt t row)) 0 (bAt t row)
     unfolding R.encodeRow R.encodeAs typeOf

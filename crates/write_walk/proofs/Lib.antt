@@ -2,6 +2,7 @@ pub mod ByKind
 pub mod Values
 pub mod Rows
 pub mod Plans
+pub mod StrictRows
 pub mod Composite
 pub mod OutOfLine
 pub mod Contents

@@ -20,7 +20,7 @@ use Rattle.write_leaves.proofs.Writing.{writing, run-fields}
 use Rattle.write_walk.specs.Walking.{ValuePut, ElementsPut}
 use Rattle.write_walk.proofs.Rows.{rows-written}
 
-any-base : {values : List ℕ} {need at base : ℕ} {c : Cursor} → Ask values need at base c → Ask values need at 0 c
+pub any-base : {values : List ℕ} {need at base : ℕ} {c : Cursor} → Ask values need at base c → Ask values need at 0 c
 any-base a = record { inside = omega (arith, a .inside); free = a .free; held = a .held; left = a .left }
 
 module _ {t : TypeTable} {sizes alignments : List ℕ} {depth row : ℕ} (ready : Ready t sizes alignments depth row) {plan : Plan} (made : plan ≡ planAs (planOf (t .rows) (t .members) alignments row)) (some : 0 < plan .count)

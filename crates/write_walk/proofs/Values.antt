@@ -13,7 +13,8 @@ use Rattle.rules.specs.Sizes.{sizeOf}
 use Rattle.rules.specs.Envelope.{encodeWord}
 use Rattle.rules.specs.Writer as R
 use Rattle.nesting.specs.Nesting.{hasParts}
-use Rattle.layout.specs.Ready.{Ready, widthAllowed}
+use Rattle.rules.specs.Sound.{widthAllowed}
+use Rattle.layout.specs.Ready.{Ready}
 use Rattle.layout.proofs.ByKind.{size-bool, size-number, size-handle, size-array, size-string, number-width, array-below}
 use Rattle.nesting.proofs.NoParts.{array-left, struct-empty, array-numbers, size-empty}
 use Rattle.layout.proofs.Readiness.{row-few, ready-at}

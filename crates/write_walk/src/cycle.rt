@@ -25,6 +25,7 @@ use write_leaves::scalars::boolean;
 use write_leaves::scalars::handle;
 use write_leaves::scalars::number;
 use write_leaves::scalars::numbers;
+use write_leaves::strict_rows::strict_values;
 use write_records::envelopes::Member;
 use write_records::envelopes::sealed;
 use write_records::envelopes::union_member;
@@ -44,6 +45,7 @@ use write_records::records::vector_opened;
 pub fn value(
     rows: &[u32],
     members: &[u32],
+    entries: &[u64],
     sizes: &[u32; 256],
     alignments: &[u32; 256],
     values: &[u64],
@@ -56,9 +58,9 @@ pub fn value(
     handles: usize,
     index: usize,
 ) -> Wrote
-    requires { ⌜ Ready (typeTable (now rows) (now members)) (now sizes) (now alignments) depth row
-        × Ask (now values) (sizeOf (typeTable (now rows) (now members)) row) at base (cursorAt next handles index) ⌝ }
-    ensures { λ r. ⌜ ValuePut (typeTable (now (rows .entry)) (now (members .entry))) (now (values .entry)) (now (out .entry)) (now (out .exit)) base depth at (cursorAt next handles index) row r ⌝ }
+    requires { ⌜ Ready (typeTable (now rows) (now members) (now entries)) (now sizes) (now alignments) depth row
+        × Ask (now values) (sizeOf (typeTable (now rows) (now members) (now entries)) row) at base (cursorAt next handles index) ⌝ }
+    ensures { λ r. ⌜ ValuePut (typeTable (now (rows .entry)) (now (members .entry)) (now (entries .entry))) (now (values .entry)) (now (out .entry)) (now (out .exit)) base depth at (cursorAt next handles index) row r ⌝ }
 {
     let c = Cursor {
         next,
@@ -81,6 +83,7 @@ pub fn value(
             return composite(
                 rows,
                 members,
+                entries,
                 sizes,
                 alignments,
                 values,
@@ -106,9 +109,13 @@ pub fn value(
         let optional = table::c_at(rows, row);
         return string(values, out, base, depth, largest, optional, at, c);
     }
+    if (kind == 11) | (kind == 12) {
+        return strict_values(rows, entries, values, out, row, 1, at, c);
+    }
     out_of_line(
         rows,
         members,
+        entries,
         sizes,
         alignments,
         values,
@@ -125,6 +132,7 @@ pub fn value(
 fn elements(
     rows: &[u32],
     members: &[u32],
+    entries: &[u64],
     sizes: &[u32; 256],
     alignments: &[u32; 256],
     values: &[u64],
@@ -136,14 +144,17 @@ fn elements(
     at: usize,
     c: Cursor,
 ) -> Wrote
-    requires { ⌜ Ready (typeTable (now rows) (now members)) (now sizes) (now alignments) depth row
-        × Ask (now values) (count * sizeOf (typeTable (now rows) (now members)) row) at base c ⌝ }
-    ensures { λ r. ⌜ ElementsPut (typeTable (now (rows .entry)) (now (members .entry))) (now (values .entry)) (now (out .entry)) (now (out .exit)) base depth at c row count r ⌝ }
+    requires { ⌜ Ready (typeTable (now rows) (now members) (now entries)) (now sizes) (now alignments) depth row
+        × Ask (now values) (count * sizeOf (typeTable (now rows) (now members) (now entries)) row) at base c ⌝ }
+    ensures { λ r. ⌜ ElementsPut (typeTable (now (rows .entry)) (now (members .entry)) (now (entries .entry))) (now (values .entry)) (now (out .entry)) (now (out .exit)) base depth at c row count r ⌝ }
 {
     let kind = table::kind_at(rows, row);
     if kind == 2 {
         let width = table::a_at(rows, row);
         return numbers(values, out, width, count, at, c);
+    }
+    if (kind == 11) | (kind == 12) {
+        return strict_values(rows, entries, values, out, row, count, at, c);
     }
     let size = words::number_at(sizes, row) as usize;
     let plan = plans::plan_of(rows, members, alignments, row);
@@ -157,6 +168,7 @@ fn elements(
         match value(
             rows,
             members,
+            entries,
             sizes,
             alignments,
             values,
@@ -186,6 +198,7 @@ fn elements(
 fn composite(
     rows: &[u32],
     members: &[u32],
+    entries: &[u64],
     sizes: &[u32; 256],
     alignments: &[u32; 256],
     values: &[u64],
@@ -196,9 +209,9 @@ fn composite(
     at: usize,
     c: Cursor,
 ) -> Wrote
-    requires { ⌜ Ready (typeTable (now rows) (now members)) (now sizes) (now alignments) depth row × (hasParts (now rows) row ≡ true)
-        × Ask (now values) (sizeOf (typeTable (now rows) (now members)) row) at base c ⌝ }
-    ensures { λ r. ⌜ ValuePut (typeTable (now (rows .entry)) (now (members .entry))) (now (values .entry)) (now (out .entry)) (now (out .exit)) base depth at c row r ⌝ }
+    requires { ⌜ Ready (typeTable (now rows) (now members) (now entries)) (now sizes) (now alignments) depth row × (hasParts (now rows) row ≡ true)
+        × Ask (now values) (sizeOf (typeTable (now rows) (now members) (now entries)) row) at base c ⌝ }
+    ensures { λ r. ⌜ ValuePut (typeTable (now (rows .entry)) (now (members .entry)) (now (entries .entry))) (now (values .entry)) (now (out .entry)) (now (out .exit)) base depth at c row r ⌝ }
 {
     // one of bools and numbers alone goes by a plan, which can be only where its first member is one of them
     let first = table::a_at(rows, row) as usize;
@@ -241,6 +254,7 @@ fn composite(
                 match value(
                     rows,
                     members,
+                    entries,
                     sizes,
                     alignments,
                     values,
@@ -280,6 +294,7 @@ fn composite(
 fn object(
     rows: &[u32],
     members: &[u32],
+    entries: &[u64],
     sizes: &[u32; 256],
     alignments: &[u32; 256],
     values: &[u64],
@@ -289,15 +304,16 @@ fn object(
     row: usize,
     x: Opening,
 ) -> Wrote
-    requires { ⌜ Ready (typeTable (now rows) (now members)) (now sizes) (now alignments) depth row
-        × Claimed (now values) (x .count * sizeOf (typeTable (now rows) (now members)) row) base x ⌝ }
-    ensures { λ r. ⌜ ObjectOf (typeTable (now (rows .entry)) (now (members .entry))) (now (values .entry)) (now (out .entry)) (now (out .exit)) base depth x row r ⌝ }
+    requires { ⌜ Ready (typeTable (now rows) (now members) (now entries)) (now sizes) (now alignments) depth row
+        × Claimed (now values) (x .count * sizeOf (typeTable (now rows) (now members) (now entries)) row) base x ⌝ }
+    ensures { λ r. ⌜ ObjectOf (typeTable (now (rows .entry)) (now (members .entry)) (now (entries .entry))) (now (values .entry)) (now (out .entry)) (now (out .exit)) base depth x row r ⌝ }
 {
     let from = rest_from(base, x.start, out.len());
     let rest = &mut out[from..];
     let wrote = elements(
         rows,
         members,
+        entries,
         sizes,
         alignments,
         values,
@@ -317,6 +333,7 @@ fn object(
 fn single(
     rows: &[u32],
     members: &[u32],
+    entries: &[u64],
     sizes: &[u32; 256],
     alignments: &[u32; 256],
     values: &[u64],
@@ -326,15 +343,16 @@ fn single(
     row: usize,
     x: Opening,
 ) -> Wrote
-    requires { ⌜ Ready (typeTable (now rows) (now members)) (now sizes) (now alignments) depth row
-        × Claimed (now values) (sizeOf (typeTable (now rows) (now members)) row) base x ⌝ }
-    ensures { λ r. ⌜ SingleOf (typeTable (now (rows .entry)) (now (members .entry))) (now (values .entry)) (now (out .entry)) (now (out .exit)) base depth x row r ⌝ }
+    requires { ⌜ Ready (typeTable (now rows) (now members) (now entries)) (now sizes) (now alignments) depth row
+        × Claimed (now values) (sizeOf (typeTable (now rows) (now members) (now entries)) row) base x ⌝ }
+    ensures { λ r. ⌜ SingleOf (typeTable (now (rows .entry)) (now (members .entry)) (now (entries .entry))) (now (values .entry)) (now (out .entry)) (now (out .exit)) base depth x row r ⌝ }
 {
     let from = rest_from(base, x.start, out.len());
     let rest = &mut out[from..];
     let wrote = value(
         rows,
         members,
+        entries,
         sizes,
         alignments,
         values,
@@ -355,6 +373,7 @@ fn single(
 fn out_of_line(
     rows: &[u32],
     members: &[u32],
+    entries: &[u64],
     sizes: &[u32; 256],
     alignments: &[u32; 256],
     values: &[u64],
@@ -365,9 +384,9 @@ fn out_of_line(
     at: usize,
     c: Cursor,
 ) -> Wrote
-    requires { ⌜ Ready (typeTable (now rows) (now members)) (now sizes) (now alignments) depth row × Outside (kindAt (typeTable (now rows) (now members)) row)
-        × Ask (now values) (sizeOf (typeTable (now rows) (now members)) row) at base c ⌝ }
-    ensures { λ r. ⌜ ValuePut (typeTable (now (rows .entry)) (now (members .entry))) (now (values .entry)) (now (out .entry)) (now (out .exit)) base depth at c row r ⌝ }
+    requires { ⌜ Ready (typeTable (now rows) (now members) (now entries)) (now sizes) (now alignments) depth row × Outside (kindAt (typeTable (now rows) (now members) (now entries)) row)
+        × Ask (now values) (sizeOf (typeTable (now rows) (now members) (now entries)) row) at base c ⌝ }
+    ensures { λ r. ⌜ ValuePut (typeTable (now (rows .entry)) (now (members .entry)) (now (entries .entry))) (now (values .entry)) (now (out .entry)) (now (out .exit)) base depth at c row r ⌝ }
 {
     let kind = table::kind_at(rows, row);
     let a = table::a_at(rows, row) as usize;
@@ -381,6 +400,7 @@ fn out_of_line(
             Opened::Open(x) => passed_on(object(
                 rows,
                 members,
+                entries,
                 sizes,
                 alignments,
                 values,
@@ -400,6 +420,7 @@ fn out_of_line(
             Opened::Open(x) => passed_on(single(
                 rows,
                 members,
+                entries,
                 sizes,
                 alignments,
                 values,
@@ -420,6 +441,7 @@ fn out_of_line(
                 passed_on(envelopes(
                     rows,
                     members,
+                    entries,
                     sizes,
                     alignments,
                     values,
@@ -439,6 +461,7 @@ fn out_of_line(
         Member::Some(what, d) => passed_on(content(
             rows,
             members,
+            entries,
             sizes,
             alignments,
             values,
@@ -456,6 +479,7 @@ fn out_of_line(
 fn envelopes(
     rows: &[u32],
     members: &[u32],
+    entries: &[u64],
     sizes: &[u32; 256],
     alignments: &[u32; 256],
     values: &[u64],
@@ -466,9 +490,9 @@ fn envelopes(
     count: usize,
     c: Cursor,
 ) -> Wrote
-    requires { ⌜ Ready (typeTable (now rows) (now members)) (now sizes) (now alignments) depth row × (kindAt (typeTable (now rows) (now members)) row ≡ 9)
+    requires { ⌜ Ready (typeTable (now rows) (now members) (now entries)) (now sizes) (now alignments) depth row × (kindAt (typeTable (now rows) (now members) (now entries)) row ≡ 9)
         × Ask (now values) (count * 8) 0 base c ⌝ }
-    ensures { λ r. ⌜ EnvelopesPut (typeTable (now (rows .entry)) (now (members .entry))) (now (values .entry)) (now (out .entry)) (now (out .exit)) base depth c row count r ⌝ }
+    ensures { λ r. ⌜ EnvelopesPut (typeTable (now (rows .entry)) (now (members .entry)) (now (entries .entry))) (now (values .entry)) (now (out .entry)) (now (out .exit)) base depth c row count r ⌝ }
 {
     let first = table::a_at(rows, row) as usize;
     let known = table::b_at(rows, row) as usize;
@@ -493,6 +517,7 @@ fn envelopes(
             match content(
                 rows,
                 members,
+                entries,
                 sizes,
                 alignments,
                 values,
@@ -519,6 +544,7 @@ fn envelopes(
 fn content(
     rows: &[u32],
     members: &[u32],
+    entries: &[u64],
     sizes: &[u32; 256],
     alignments: &[u32; 256],
     values: &[u64],
@@ -529,9 +555,9 @@ fn content(
     at: usize,
     c: Cursor,
 ) -> Wrote
-    requires { ⌜ PayloadReady (typeTable (now rows) (now members)) (now sizes) (now alignments) depth what
+    requires { ⌜ PayloadReady (typeTable (now rows) (now members) (now entries)) (now sizes) (now alignments) depth what
         × Ask (now values) 8 at base c × (0 < c .index) ⌝ }
-    ensures { λ r. ⌜ ContentPut (typeTable (now (rows .entry)) (now (members .entry))) (now (values .entry)) (now (out .entry)) (now (out .exit)) base depth at c what r ⌝ }
+    ensures { λ r. ⌜ ContentPut (typeTable (now (rows .entry)) (now (members .entry)) (now (entries .entry))) (now (values .entry)) (now (out .entry)) (now (out .exit)) base depth at c what r ⌝ }
 {
     match what {
         Ordinal::Unknown => unknown_content(values, out, base, depth, at, c),
@@ -544,6 +570,7 @@ fn content(
                 return match value(
                     rows,
                     members,
+                    entries,
                     sizes,
                     alignments,
                     values,
@@ -570,6 +597,7 @@ fn content(
                     match single(
                         rows,
                         members,
+                        entries,
                         sizes,
                         alignments,
                         values,

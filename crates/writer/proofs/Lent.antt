@@ -36,26 +36,26 @@ module _ (t : TypeTable) (values : List ℕ) (root : ℕ) where
   abbrev pub Measures : Answer Sizes → Type 0
   Measures answer = answer ≡ sizesOf (written t root values)
 
-module _ (rows members values : List ℕ) (root : ℕ) (verdict : Soundness) (judged : Layout.verdictOf verdict ≡ soundness (typeTable rows members)) where
-  pub table-refused : {f : Fault} → verdict ≡ Table.Refused f → Measures (typeTable rows members) values root (refused f)
+module _ (rows members entries values : List ℕ) (root : ℕ) (verdict : Soundness) (judged : Layout.verdictOf verdict ≡ soundness (typeTable rows members entries)) where
+  pub table-refused : {f : Fault} → verdict ≡ Table.Refused f → Measures (typeTable rows members entries) values root (refused f)
   unfolding written
   table-refused e = rw (← judged, e)
 
   module _ (e : verdict ≡ Table.Sound) {allowed : Bool} (read : RootIs rows root allowed) where
-    sound : soundness (typeTable rows members) ≡ accepted tt
+    sound : soundness (typeTable rows members entries) ≡ accepted tt
     sound = sym judged ∙ rw e
 
-    pub root-refused : allowed ≡ false → Measures (typeTable rows members) values root (refused (fault rootNotAllowed (Row root)))
+    pub root-refused : allowed ≡ false → Measures (typeTable rows members entries) values root (refused (fault rootNotAllowed (Row root)))
     unfolding written
-    root-refused q = rw (sound, ← read (typeTable rows members) refl, q)
+    root-refused q = rw (sound, ← read (typeTable rows members entries) refl, q)
 
     module _ (q : allowed ≡ true) where
       pub root-ready : (sizes alignments : List ℕ) {sizes′ alignments′ : List ℕ}
-          → sizes′ ≡ givenIfSound (typeTable rows members) (keptSizes (typeTable rows members)) sizes
-          → alignments′ ≡ givenIfSound (typeTable rows members) (keptAlignments (typeTable rows members)) alignments
-          → Ready (typeTable rows members) sizes′ alignments′ 32 root
+          → sizes′ ≡ givenIfSound (typeTable rows members entries) (keptSizes (typeTable rows members entries)) sizes
+          → alignments′ ≡ givenIfSound (typeTable rows members entries) (keptAlignments (typeTable rows members entries)) alignments
+          → Ready (typeTable rows members entries) sizes′ alignments′ 32 root
       root-ready sizes alignments s a =
-          let t = typeTable rows members in
+          let t = typeTable rows members entries in
           record {
             sound = sound;
             edition = refl;
@@ -65,9 +65,9 @@ module _ (rows members values : List ℕ) (root : ℕ) (verdict : Soundness) (ju
             in-use = root-in-use t root (sym (read t refl) ∙ q);
           }
 
-      pub measured : {out out′ : List ℕ} {r : Written} → Passed (typeTable rows members) values root out out′ r → Measures (typeTable rows members) values root (writtenOf r)
+      pub measured : {out out′ : List ℕ} {r : Written} → Passed (typeTable rows members entries) values root out out′ r → Measures (typeTable rows members entries) values root (writtenOf r)
       unfolding written
-      measured p = p .answers ∙ rw (sound, ← read (typeTable rows members) refl, q)
+      measured p = p .answers ∙ rw (sound, ← read (typeTable rows members entries) refl, q)
 
 -- ---- a value list that has a message
 

@@ -26,14 +26,29 @@ pub enum Written {
 
 // The message of a value list. The pass that stores comes after the one that judges and measures, so that a refusal changes
 // nothing; nothing changes past the message.
-pub fn write(rows: &[u32], members: &[u32], root: u32, values: &[u64], out: &mut [u8]) -> Written
-    ensures answer { λ r. ⌜ writtenOf r ≡ sizesOf (Rules.write (typeTable (now (rows .entry)) (now (members .entry))) root (now (values .entry)) (length (now (out .entry)))) ⌝ }
-    ensures output { λ _. ⌜ now (out .exit) ≡ outputAfter (Rules.write (typeTable (now (rows .entry)) (now (members .entry))) root (now (values .entry)) (length (now (out .entry)))) (now (out .entry)) ⌝ }
-    ensures numbers { λ r. ⌜ writtenNumbers r ≡ numbersOf 2 sized (Rules.write (typeTable (now (rows .entry)) (now (members .entry))) root (now (values .entry)) (length (now (out .entry)))) ⌝ }
+pub fn write(
+    rows: &[u32],
+    members: &[u32],
+    entries: &[u64],
+    root: u32,
+    values: &[u64],
+    out: &mut [u8],
+) -> Written
+    ensures answer { λ r. ⌜ writtenOf r ≡ sizesOf (Rules.write (typeTable (now (rows .entry)) (now (members .entry)) (now (entries .entry))) root (now (values .entry)) (length (now (out .entry)))) ⌝ }
+    ensures output { λ _. ⌜ now (out .exit) ≡ outputAfter (Rules.write (typeTable (now (rows .entry)) (now (members .entry)) (now (entries .entry))) root (now (values .entry)) (length (now (out .entry)))) (now (out .entry)) ⌝ }
+    ensures numbers { λ r. ⌜ writtenNumbers r ≡ numbersOf 2 sized (Rules.write (typeTable (now (rows .entry)) (now (members .entry)) (now (entries .entry))) root (now (values .entry)) (length (now (out .entry)))) ⌝ }
 {
     let mut sizes = [0u32; 256];
     let mut alignments = [0u32; 256];
-    match measure(rows, members, &mut sizes, &mut alignments, root, values) {
+    match measure(
+        rows,
+        members,
+        entries,
+        &mut sizes,
+        &mut alignments,
+        root,
+        values,
+    ) {
         Written::Refused(f) => Written::Refused(f),
         Written::Accepted(needed) => {
             if out.len() < needed.bytes {
@@ -46,6 +61,7 @@ pub fn write(rows: &[u32], members: &[u32], root: u32, values: &[u64], out: &mut
             pass(
                 rows,
                 members,
+                entries,
                 &sizes,
                 &alignments,
                 root,

@@ -24,20 +24,22 @@ use write_walk::cycle::value;
 fn primary(
     rows: &[u32],
     members: &[u32],
+    entries: &[u64],
     sizes: &[u32; 256],
     alignments: &[u32; 256],
     root: usize,
     values: &[u64],
     out: &mut [u8],
 ) -> Wrote
-    requires { ⌜ Ready (typeTable (now rows) (now members)) (now sizes) (now alignments) 32 root ⌝ }
-    ensures { λ r. ⌜ PrimaryPut (typeTable (now (rows .entry)) (now (members .entry))) (now (values .entry)) root (now (out .entry)) (now (out .exit)) r ⌝ }
+    requires { ⌜ Ready (typeTable (now rows) (now members) (now entries)) (now sizes) (now alignments) 32 root ⌝ }
+    ensures { λ r. ⌜ PrimaryPut (typeTable (now (rows .entry)) (now (members .entry)) (now (entries .entry))) (now (values .entry)) root (now (out .entry)) (now (out .exit)) r ⌝ }
 {
     let size = words::number_at(sizes, root) as usize;
     let whole = (size + 7) / 8 * 8;
     match value(
         rows,
         members,
+        entries,
         sizes,
         alignments,
         values,
@@ -75,16 +77,26 @@ fn after(end: Cursor, total: usize) -> Written
 pub(crate) fn pass(
     rows: &[u32],
     members: &[u32],
+    entries: &[u64],
     sizes: &[u32; 256],
     alignments: &[u32; 256],
     root: u32,
     values: &[u64],
     out: &mut [u8],
 ) -> Written
-    requires { ⌜ Ready (typeTable (now rows) (now members)) (now sizes) (now alignments) 32 root ⌝ }
-    ensures { λ r. ⌜ Passed (typeTable (now (rows .entry)) (now (members .entry))) (now (values .entry)) root (now (out .entry)) (now (out .exit)) r ⌝ }
+    requires { ⌜ Ready (typeTable (now rows) (now members) (now entries)) (now sizes) (now alignments) 32 root ⌝ }
+    ensures { λ r. ⌜ Passed (typeTable (now (rows .entry)) (now (members .entry)) (now (entries .entry))) (now (values .entry)) root (now (out .entry)) (now (out .exit)) r ⌝ }
 {
-    match primary(rows, members, sizes, alignments, root as usize, values, out) {
+    match primary(
+        rows,
+        members,
+        entries,
+        sizes,
+        alignments,
+        root as usize,
+        values,
+        out,
+    ) {
         Wrote::Refused(f) => Written::Refused(f),
         Wrote::On(end) => after(end, values.len()),
     }
@@ -95,21 +107,22 @@ pub(crate) fn pass(
 pub(crate) fn measure(
     rows: &[u32],
     members: &[u32],
+    entries: &[u64],
     sizes: &mut [u32; 256],
     alignments: &mut [u32; 256],
     root: u32,
     values: &[u64],
 ) -> Written
     requires { ⌜ Zeroed (now sizes) × Zeroed (now alignments) ⌝ }
-    ensures answer { λ r. ⌜ writtenOf r ≡ sizesOf (written (typeTable (now (rows .entry)) (now (members .entry))) root (now (values .entry))) ⌝ }
+    ensures answer { λ r. ⌜ writtenOf r ≡ sizesOf (written (typeTable (now (rows .entry)) (now (members .entry)) (now (entries .entry))) root (now (values .entry))) ⌝ }
     ensures sizes { λ _.
-        let t = typeTable (now (rows .entry)) (now (members .entry)) in
+        let t = typeTable (now (rows .entry)) (now (members .entry)) (now (entries .entry)) in
         ⌜ now (sizes .exit) ≡ givenIfSound t (keptSizes t) (now (sizes .entry)) ⌝ }
     ensures alignments { λ _.
-        let t = typeTable (now (rows .entry)) (now (members .entry)) in
+        let t = typeTable (now (rows .entry)) (now (members .entry)) (now (entries .entry)) in
         ⌜ now (alignments .exit) ≡ givenIfSound t (keptAlignments t) (now (alignments .entry)) ⌝ }
 {
-    let verdict = climb(rows, members, sizes, alignments);
+    let verdict = climb(rows, members, entries, sizes, alignments);
     if let Soundness::Refused(f) = verdict {
         return Written::Refused(f);
     }
@@ -120,5 +133,14 @@ pub(crate) fn measure(
         });
     }
     let mut none = [0u8; 0];
-    pass(rows, members, sizes, alignments, root, values, &mut none)
+    pass(
+        rows,
+        members,
+        entries,
+        sizes,
+        alignments,
+        root,
+        values,
+        &mut none,
+    )
 }

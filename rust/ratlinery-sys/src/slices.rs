@@ -5,25 +5,34 @@
 
 use crate as c;
 
+/// The three lists of a type table.
+#[derive(Clone, Copy, Debug, PartialEq, Eq)]
+pub struct Types<'t> {
+    pub rows: &'t [u32],
+    pub members: &'t [u32],
+    pub entries: &'t [u64],
+}
+
 /// A type table, a root and a message as they are handed to a reader.
 #[derive(Clone, Copy, Debug)]
 pub struct Asked<'m> {
-    pub rows: &'m [u32],
-    pub members: &'m [u32],
+    pub types: Types<'m>,
     pub root: u32,
     pub message: &'m [u8],
     pub handles: u64,
 }
 
 #[inline]
-pub fn layout(rows: &[u32], members: &[u32], row: u32, answer: &mut [u64]) -> u32 {
+pub fn layout(types: Types, row: u32, answer: &mut [u64]) -> u32 {
     // SAFETY: see above.
     unsafe {
         c::ratlinery_layout(
-            rows.as_ptr(),
-            rows.len(),
-            members.as_ptr(),
-            members.len(),
+            types.rows.as_ptr(),
+            types.rows.len(),
+            types.members.as_ptr(),
+            types.members.len(),
+            types.entries.as_ptr(),
+            types.entries.len(),
             row,
             answer.as_mut_ptr(),
             answer.len(),
@@ -36,10 +45,12 @@ pub fn check(asked: Asked, answer: &mut [u64]) -> u32 {
     // SAFETY: see above.
     unsafe {
         c::ratlinery_check(
-            asked.rows.as_ptr(),
-            asked.rows.len(),
-            asked.members.as_ptr(),
-            asked.members.len(),
+            asked.types.rows.as_ptr(),
+            asked.types.rows.len(),
+            asked.types.members.as_ptr(),
+            asked.types.members.len(),
+            asked.types.entries.as_ptr(),
+            asked.types.entries.len(),
             asked.root,
             asked.message.as_ptr(),
             asked.message.len(),
@@ -55,10 +66,12 @@ pub fn read(asked: Asked, values: &mut [u64], objects: &mut [u32], answer: &mut 
     // SAFETY: see above.
     unsafe {
         c::ratlinery_read(
-            asked.rows.as_ptr(),
-            asked.rows.len(),
-            asked.members.as_ptr(),
-            asked.members.len(),
+            asked.types.rows.as_ptr(),
+            asked.types.rows.len(),
+            asked.types.members.as_ptr(),
+            asked.types.members.len(),
+            asked.types.entries.as_ptr(),
+            asked.types.entries.len(),
             asked.root,
             asked.message.as_ptr(),
             asked.message.len(),
@@ -78,10 +91,12 @@ pub fn read_values(asked: Asked, values: &mut [u64], answer: &mut [u64]) -> u32 
     // SAFETY: see above.
     unsafe {
         c::ratlinery_read_values(
-            asked.rows.as_ptr(),
-            asked.rows.len(),
-            asked.members.as_ptr(),
-            asked.members.len(),
+            asked.types.rows.as_ptr(),
+            asked.types.rows.len(),
+            asked.types.members.as_ptr(),
+            asked.types.members.len(),
+            asked.types.entries.as_ptr(),
+            asked.types.entries.len(),
             asked.root,
             asked.message.as_ptr(),
             asked.message.len(),
@@ -99,10 +114,12 @@ pub fn read_objects(asked: Asked, objects: &mut [u32], answer: &mut [u64]) -> u3
     // SAFETY: see above.
     unsafe {
         c::ratlinery_read_objects(
-            asked.rows.as_ptr(),
-            asked.rows.len(),
-            asked.members.as_ptr(),
-            asked.members.len(),
+            asked.types.rows.as_ptr(),
+            asked.types.rows.len(),
+            asked.types.members.as_ptr(),
+            asked.types.members.len(),
+            asked.types.entries.as_ptr(),
+            asked.types.entries.len(),
             asked.root,
             asked.message.as_ptr(),
             asked.message.len(),
@@ -116,21 +133,16 @@ pub fn read_objects(asked: Asked, objects: &mut [u32], answer: &mut [u64]) -> u3
 }
 
 #[inline]
-pub fn write(
-    rows: &[u32],
-    members: &[u32],
-    root: u32,
-    values: &[u64],
-    out: &mut [u8],
-    answer: &mut [u64],
-) -> u32 {
+pub fn write(types: Types, root: u32, values: &[u64], out: &mut [u8], answer: &mut [u64]) -> u32 {
     // SAFETY: see above.
     unsafe {
         c::ratlinery_write(
-            rows.as_ptr(),
-            rows.len(),
-            members.as_ptr(),
-            members.len(),
+            types.rows.as_ptr(),
+            types.rows.len(),
+            types.members.as_ptr(),
+            types.members.len(),
+            types.entries.as_ptr(),
+            types.entries.len(),
             root,
             values.as_ptr(),
             values.len(),

@@ -5,9 +5,8 @@ use crate::{Epitaph, Header, TypeTable};
 use ratlinery_sys::slices::{self, Asked};
 
 pub(crate) fn layout(table: TypeTable, row: u32) -> Result<[u64; 2], Refusal> {
-    let (rows, members) = table.lists();
     let mut answer = [0; 3];
-    let number = slices::layout(rows, members, row, &mut answer);
+    let number = slices::layout(table.types, row, &mut answer);
     let [place, results @ ..] = answer;
     judged(Side::Reader, number, place).map(|()| results)
 }
@@ -43,9 +42,8 @@ pub(crate) fn write(
     values: &[u64],
     out: &mut [u8],
 ) -> Result<[u64; 2], Refusal> {
-    let (rows, members) = table.lists();
     let mut answer = [0; 3];
-    let number = slices::write(rows, members, root, values, out, &mut answer);
+    let number = slices::write(table.types, root, values, out, &mut answer);
     let [place, results @ ..] = answer;
     judged(Side::Writer, number, place).map(|()| results)
 }

@@ -33,13 +33,14 @@ pub enum Reason {
     EpitaphTransaction = 25,
     NotAValue = 26,
     BadHandleNumber = 28,
+    UnknownValue = 29,
     ImpossibleHandles = 35,
 }
 
 use Reason::*;
 
 /// Each reason, in the order of the numbers, with a sentence for a person.
-const SENTENCES: [(Reason, &str); 28] = [
+const SENTENCES: [(Reason, &str); 29] = [
     (TableNotSound, "the type table is not sound"),
     (RootNotAllowed, "there is no such row, or it may not be a root"),
     (TooManyBytes, "the message has more than 65,536 bytes"),
@@ -70,11 +71,12 @@ const SENTENCES: [(Reason, &str); 28] = [
     (EpitaphTransaction, "an epitaph has a transaction number"),
     (NotAValue, "the list is not a value of the root's type"),
     (BadHandleNumber, "an envelope's handle number is wrong"),
+    (UnknownValue, "a strict enum or strict bits have a value that their type does not know"),
     (ImpossibleHandles, "unknown content claims more handles than its bytes have room for"),
 ];
 
 impl Reason {
-    /// The number: 1 to 26, 28 or 35.
+    /// The number: 1 to 26, 28, 29 or 35.
     pub fn number(self) -> u32 {
         self as u32
     }
@@ -132,7 +134,7 @@ pub struct Refusal {
 }
 
 impl Refusal {
-    /// The number: 1 to 26, 28 or 35.
+    /// The number: 1 to 26, 28, 29 or 35.
     pub fn number(&self) -> u32 {
         self.reason.number()
     }
@@ -194,7 +196,7 @@ mod tests {
     #[test]
     fn reasons_and_numbers_go_together() {
         let numbers: Vec<u32> = (0..100).filter(|&number| Reason::from_number(number).is_some()).collect();
-        assert_eq!(numbers, (1..=26).chain([28, 35]).collect::<Vec<_>>());
+        assert_eq!(numbers, (1..=26).chain([28, 29, 35]).collect::<Vec<_>>());
         for number in numbers {
             let reason = Reason::from_number(number).unwrap();
             assert_eq!(reason.number(), number);

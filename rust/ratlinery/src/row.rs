@@ -1,12 +1,12 @@
 //! Rows of a type table by name. A row is `[kind, a, b, c]`; see `include/ratlinery.h`.
 
-/// A row or a member's number in the type table.
+/// A row's, a member's or an entry's number in the type table.
 pub type Index = u32;
 
 /// A bool.
 pub const BOOL: [u32; 4] = [1, 0, 0, 0];
 
-/// A number, enum, bits or float of 1, 2, 4 or 8 bytes.
+/// A number, a float, or a flexible enum or bits, of 1, 2, 4 or 8 bytes.
 pub const fn number(bytes: u32) -> [u32; 4] {
     [2, bytes, 0, 0]
 }
@@ -49,4 +49,14 @@ pub const fn table(first_member: Index, members: u32) -> [u32; 4] {
 /// A union of one member or more, whose ordinals rise.
 pub const fn union(first_member: Index, members: u32, optional: bool, flexible: bool) -> [u32; 4] {
     [10, first_member, members, optional as u32 + 2 * flexible as u32]
+}
+
+/// A strict enum of 1, 2, 4 or 8 bytes: its values are one entry or more, which rise.
+pub const fn strict_enum(bytes: u32, first_entry: Index, entries: u32) -> [u32; 4] {
+    [11, bytes, first_entry, entries]
+}
+
+/// Strict bits of 1, 2, 4 or 8 bytes: no bit is set outside the entry that is their mask.
+pub const fn strict_bits(bytes: u32, mask: Index) -> [u32; 4] {
+    [12, bytes, mask, 1]
 }

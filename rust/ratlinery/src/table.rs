@@ -3,13 +3,12 @@
 use crate::call;
 use crate::refusal::{Reason, Refusal};
 use crate::tree::Tree;
-use ratlinery_sys::slices::Asked;
+use ratlinery_sys::slices::{Asked, Types};
 
-/// A type table: rows and members, as `include/ratlinery.h` describes them. Each call judges it anew.
+/// A type table: rows, members and entries, as `include/ratlinery.h` describes them. Each call judges it anew.
 #[derive(Clone, Copy, Debug, PartialEq, Eq)]
 pub struct TypeTable<'t> {
-    rows: &'t [u32],
-    members: &'t [u32],
+    pub(crate) types: Types<'t>,
 }
 
 /// The layout of a row in line.
@@ -62,19 +61,40 @@ pub struct Written {
 }
 
 impl<'t> TypeTable<'t> {
-    /// A type table of whole rows and members.
+    /// A type table of whole rows and members, without entries.
     pub const fn new(rows: &'t [[u32; 4]], members: &'t [[u32; 2]]) -> Self {
-        TypeTable { rows: rows.as_flattened(), members: members.as_flattened() }
+        Self::from_lists(rows.as_flattened(), members.as_flattened())
     }
 
-    /// A type table as two lists of numbers. A list that is not whole is refused with the first call (1, row 256).
+    /// A type table as lists of numbers, without entries. A list that is not whole is refused with the first call (1, row
+    /// 256).
     pub const fn from_lists(rows: &'t [u32], members: &'t [u32]) -> Self {
-        TypeTable { rows, members }
+        TypeTable { types: Types { rows, members, entries: &[] } }
     }
 
-    /// The two lists.
-    pub const fn lists(&self) -> (&'t [u32], &'t [u32]) {
-        (self.rows, self.members)
+    /// The same rows and members with these entries, which strict enums and strict bits name.
+    ///
+    /// ```
+    /// use ratlinery::{Reason, TypeTable, row};
+    ///
+    /// // a struct of a button, 1, 2 or 4, and of lamps, of which there are four
+    /// let rows = [row::strict_enum(1, 0, 3), row::strict_bits(1, 3), row::structure(0, 2)];
+    /// let table = TypeTable::new(&rows, &[[1, 0], [2, 1]]).with_entries(&[1, 2, 4, 0b1111]);
+    /// assert_eq!(table.read_values(2, &[4, 0b1010, 0, 0, 0, 0, 0, 0], 0)?, [4, 0b1010]);
+    ///
+    /// // there is no button 3
+    /// let refusal = table.check(2, &[3, 0b1010, 0, 0, 0, 0, 0, 0], 0).unwrap_err();
+    /// assert_eq!(refusal.reason, Reason::UnknownValue);
+    /// # Ok::<(), ratlinery::Refusal>(())
+    /// ```
+    pub const fn with_entries(self, entries: &'t [u64]) -> Self {
+        TypeTable { types: Types { entries, ..self.types } }
+    }
+
+    /// The three lists: rows, members and entries.
+    pub const fn lists(&self) -> (&'t [u32], &'t [u32], &'t [u64]) {
+        let Types { rows, members, entries } = self.types;
+        (rows, members, entries)
     }
 
     /// Is the table sound? (1)
@@ -98,7 +118,7 @@ impl<'t> TypeTable<'t> {
         Ok(Layout { size: size as u32, alignment: alignment as u32 })
     }
 
-    /// Is a message, with its number of handles, one of the root's type? (1 to 21)
+    /// Is a message, with its number of handles, one of the root's type? (1 to 21, 28, 29, 35)
     pub fn check(&self, root: u32, message: &[u8], handles: u64) -> Result<(), Refusal> {
         call::check(self.asked(root, message, handles))
     }
@@ -199,8 +219,7 @@ impl<'t> TypeTable<'t> {
     where
         't: 'm,
     {
-        let (rows, members) = self.lists();
-        Asked { rows, members, root, message, handles }
+        Asked { types: self.types, root, message, handles }
     }
 }
 

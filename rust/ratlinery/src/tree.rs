@@ -156,7 +156,7 @@ impl Tree<'_> {
 impl<'v> Tree<'v> {
     /// The tree of a value list that the library accepts.
     pub(crate) fn new(table: TypeTable, root: u32, values: &'v [u64]) -> Self {
-        let (rows, members) = table.lists();
+        let (rows, members, _) = table.lists();
         let mut builder = Builder {
             rows: rows.as_chunks().0,
             members: members.as_chunks().0,
@@ -255,7 +255,7 @@ impl Builder<'_> {
         let number = self.take();
         match (kind, number) {
             (1, _) => self.leaf(What::Bool(number == 1)),
-            (2, _) => self.leaf(What::Number(number)),
+            (2 | 11 | 12, _) => self.leaf(What::Number(number)),
             (3, _) => self.leaf(What::Handle(number == 1)),
             (5, 0) => self.leaf(What::Vector(false)),
             (5, _) => self.open(What::Vector(true), Task::Each { row: a, left: number - 1 }),

@@ -130,6 +130,7 @@ impl<'m> Decoder<'_, 'm> {
         match self.schema.types[row].kind {
             Kind::Number => Ok(()),
             Kind::Bool => require(self.message.bytes[at] <= 1, 8, at),
+            Kind::Enum { .. } | Kind::Bits { .. } => self.judge_each(row, 1, at),
             Kind::Handle { optional } => self.handle(optional, at),
             Kind::Array { element, count } => self.judge_each(element, count, at),
             Kind::Struct { first, end } => {
@@ -147,13 +148,29 @@ impl<'m> Decoder<'_, 'm> {
 
     fn judge_each(&mut self, row: usize, count: usize, at: usize) -> Answer<()> {
         let of = &self.schema.types[row];
-        if let Kind::Number = of.kind {
-            return Ok(());
+        match of.kind {
+            Kind::Number => Ok(()),
+            Kind::Enum { entries } => {
+                self.strict(of.size, count, at, |value| entries.binary_search(&value).is_ok())
+            }
+            Kind::Bits { mask } => self.strict(of.size, count, at, |value| value & !mask == 0),
+            _ => (0..count).try_for_each(|i| self.judge(row, at + i * of.size)),
         }
-        for i in 0..count {
-            self.judge(row, at + i * of.size)?;
+    }
+
+    /// So many strict numbers of one width: 29 at the first that is not known.
+    fn strict(&self, width: usize, count: usize, at: usize, known: impl Fn(u64) -> bool) -> Answer<()> {
+        let bytes = self.part(at, count * width);
+        let unknown = match width {
+            1 => bytes.iter().position(|&byte| !known(byte.into())),
+            2 => position(bytes, |number| !known(u16::from_le_bytes(number).into())),
+            4 => position(bytes, |number| !known(u32::from_le_bytes(number).into())),
+            _ => position(bytes, |number| !known(u64::from_le_bytes(number))),
+        };
+        match unknown {
+            None => Ok(()),
+            Some(past) => refuse(29, at + past * width),
         }
-        Ok(())
     }
 
     fn handle(&mut self, optional: bool, at: usize) -> Answer<()> {
@@ -396,4 +413,10 @@ impl<'m> Decoder<'_, 'm> {
         self.take_handles(envelope.handles(), envelope.at)?;
         Ok(Content::Unknown { row, at, handles: envelope.handles(), bytes })
     }
+}
+
+/// Which number of one width is the first of which something holds.
+fn position<const WIDTH: usize>(bytes: &[u8], holds: impl Fn([u8; WIDTH]) -> bool) -> Option<usize> {
+    let (numbers, _) = bytes.as_chunks::<WIDTH>();
+    numbers.iter().position(|&number| holds(number))
 }

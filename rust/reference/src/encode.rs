@@ -1,7 +1,7 @@
 //! A value list written as a message, in one go, into a growing list of bytes. Document 01, "Object list and value list".
 
 use crate::refusal::{Answer, refuse, require};
-use crate::schema::{Kind, Schema};
+use crate::schema::{Kind, Schema, largest};
 
 const LONGEST_MESSAGE: usize = 65_536;
 const MOST_HANDLES: u64 = 64;
@@ -86,7 +86,8 @@ impl Encoder<'_, '_> {
         let of = &schema.types[row];
         match of.kind {
             Kind::Bool => self.number(1, 1, at),
-            Kind::Number => self.number(of.size, u64::MAX >> (64 - 8 * of.size), at),
+            Kind::Number => self.number(of.size, largest(of.size), at),
+            Kind::Enum { .. } | Kind::Bits { .. } => self.each(row, 1, at, depth),
             Kind::Handle { optional } => self.handle(optional, at),
             Kind::Array { element, count } => self.each(element, count, at, depth),
             Kind::Struct { first, end } => {
@@ -139,20 +140,31 @@ impl Encoder<'_, '_> {
 
     fn each(&mut self, row: usize, count: usize, at: usize, depth: u32) -> Answer<()> {
         let of = &self.schema.types[row];
-        if let Kind::Number = of.kind {
-            return self.numbers(of.size, count, at);
+        match of.kind {
+            Kind::Number => self.numbers(of.size, count, at),
+            Kind::Enum { entries } => {
+                self.strict(of.size, count, at, |value| entries.binary_search(&value).is_ok())
+            }
+            Kind::Bits { mask } => self.strict(of.size, count, at, |value| value & !mask == 0),
+            _ => (0..count).try_for_each(|i| self.value(row, at + i * of.size, depth)),
         }
-        for i in 0..count {
-            self.value(row, at + i * of.size, depth)?;
-        }
-        Ok(())
     }
 
-    /// So many numbers of one width.
+    /// So many strict numbers of one width: 26 at the first that is not known.
+    fn strict(&mut self, width: usize, count: usize, at: usize, known: impl Fn(u64) -> bool) -> Answer<()> {
+        let mut run = self.values[self.index..].iter().take(count);
+        match run.position(|&value| !known(value)) {
+            None => self.numbers(width, count, at),
+            Some(past) => refuse(26, self.index + past),
+        }
+    }
+
+    /// So many numbers of one width. Inlined, so that each width known beforehand has a loop of its own.
+    #[inline(always)]
     fn numbers(&mut self, width: usize, count: usize, at: usize) -> Answer<()> {
         let run = &self.values[self.index..];
         let run = &run[..count.min(run.len())];
-        let largest = u64::MAX >> (64 - 8 * width);
+        let largest = largest(width);
         if let Some(past) = run.iter().position(|&value| value > largest) {
             return refuse(26, self.index + past);
         }

@@ -3,11 +3,12 @@
 
 use crate::{Answer, Epitaph, Header, Message, Schema, check_utf8, refusal};
 
-/// The two lists of a type table, as document 01 writes them.
+/// The three lists of a type table: document 01's two, and W-206's entries.
 #[derive(Clone, Copy, Debug)]
 pub struct Table<'t> {
     pub rows: &'t [u32],
     pub members: &'t [u32],
+    pub entries: &'t [u64],
 }
 
 /// The functions of the C face. Each returns the number and stores place and results into `answer`, as far as there is
@@ -140,7 +141,7 @@ impl Face for Reference {
 
 impl<'t> Table<'t> {
     pub fn schema(self) -> Answer<Schema<'t>> {
-        Schema::new(self.rows, self.members)
+        Schema::new(self)
     }
 }
 

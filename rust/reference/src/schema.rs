@@ -1,5 +1,7 @@
-//! The type table: judged (1), and laid out. Document 01, "The type table" and "Sizes".
+//! The type table: judged (1), and laid out. Document 01, "The type table" and "Sizes"; document 02's W-206 for strict
+//! enums and strict bits.
 
+use crate::face::Table;
 use crate::refusal::{Answer, refuse};
 
 /// No in-line size is larger.
@@ -7,10 +9,17 @@ const LARGEST_SIZE: usize = 65_528;
 
 /// A row by its kind, with what it names.
 #[derive(Clone, Copy, Debug)]
-pub(crate) enum Kind {
+pub(crate) enum Kind<'t> {
     Bool,
     /// Its width is its size.
     Number,
+    /// Its values, which rise.
+    Enum {
+        entries: &'t [u64],
+    },
+    Bits {
+        mask: u64,
+    },
     Handle {
         optional: bool,
     },
@@ -49,8 +58,8 @@ pub(crate) enum Kind {
 }
 
 #[derive(Clone, Copy, Debug)]
-pub(crate) struct Type {
-    pub kind: Kind,
+pub(crate) struct Type<'t> {
+    pub kind: Kind<'t>,
     pub size: usize,
     pub alignment: usize,
     /// How many value numbers there are in it, where it is plain: where nothing in it can refer out of line.
@@ -76,21 +85,23 @@ pub struct Layout {
 /// A sound type table, ready to walk by.
 #[derive(Debug)]
 pub struct Schema<'t> {
-    pub(crate) types: Vec<Type>,
+    pub(crate) types: Vec<Type<'t>>,
     pub(crate) fields: Vec<Field>,
     pub(crate) members: &'t [[u32; 2]],
+    entries: &'t [u64],
 }
 
 impl<'t> Schema<'t> {
     /// Judges a type table: 1 at 256 if a list's length is wrong, else at the lowest bad row.
-    pub fn new(rows: &[u32], members: &'t [u32]) -> Answer<Self> {
+    pub fn new(Table { rows, members, entries }: Table<'t>) -> Answer<Self> {
         let (rows, rows_left) = rows.as_chunks::<4>();
         let (members, members_left) = members.as_chunks::<2>();
         let whole = rows_left.is_empty() && members_left.is_empty();
-        if !whole || !(1..=256).contains(&rows.len()) || members.len() > 1024 {
+        if !whole || !(1..=256).contains(&rows.len()) || members.len() > 1024 || entries.len() > 1024 {
             return refuse(1, 256);
         }
-        let mut schema = Schema { types: Vec::with_capacity(rows.len()), fields: Vec::new(), members };
+        let types = Vec::with_capacity(rows.len());
+        let mut schema = Schema { types, fields: Vec::new(), members, entries };
         for row in 0..rows.len() {
             match schema.judge(rows, row) {
                 Some(sound) => schema.types.push(sound),
@@ -101,7 +112,7 @@ impl<'t> Schema<'t> {
     }
 
     /// A row held against the table of kinds, line by line.
-    fn judge(&mut self, rows: &[[u32; 4]], row: usize) -> Option<Type> {
+    fn judge(&mut self, rows: &[[u32; 4]], row: usize) -> Option<Type<'t>> {
         let [kind, a, b, c] = rows[row];
         let named = a as usize;
         let largest = u64::from(b);
@@ -128,11 +139,20 @@ impl<'t> Schema<'t> {
                 let kind = Kind::Union { first, end, optional: c & 1 != 0, flexible: c & 2 != 0 };
                 Some(Type::record(kind, 16))
             }
+            (11, 1 | 2 | 4 | 8, _, 1..) => {
+                let entries = self.within(named, b as usize, c as usize)?;
+                let rising = entries.is_sorted_by(|before, after| before < after);
+                rising.then(|| Type::scalar(Kind::Enum { entries }, named))
+            }
+            (12, 1 | 2 | 4 | 8, _, 1) => {
+                let &[mask] = self.within(named, b as usize, 1)? else { return None };
+                Some(Type::scalar(Kind::Bits { mask }, named))
+            }
             _ => None,
         }
     }
 
-    fn array(&self, row: usize, element: usize, count: usize) -> Option<Type> {
+    fn array(&self, row: usize, element: usize, count: usize) -> Option<Type<'t>> {
         let of = self.types.get(element).filter(|_| element < row)?;
         Type {
             kind: Kind::Array { element, count },
@@ -143,7 +163,7 @@ impl<'t> Schema<'t> {
         .within_limit()
     }
 
-    fn structure(&mut self, row: usize, first: usize, count: usize) -> Option<Type> {
+    fn structure(&mut self, row: usize, first: usize, count: usize) -> Option<Type<'t>> {
         let members = self.members.get(first..first.checked_add(count)?)?;
         let start = self.fields.len();
         let (mut size, mut alignment, mut plain) = (0, 1, Some(0));
@@ -181,6 +201,12 @@ impl<'t> Schema<'t> {
         Some((first, end))
     }
 
+    /// Entries that a row names: they exist, and fit into its bytes.
+    fn within(&self, width: usize, first: usize, count: usize) -> Option<&'t [u64]> {
+        let entries = self.entries.get(first..first.checked_add(count)?)?;
+        entries.iter().all(|&entry| entry <= largest(width)).then_some(entries)
+    }
+
     /// The root, if it may be one: 2.
     pub(crate) fn root(&self, root: u32) -> Answer<usize> {
         match self.types.get(root as usize).map(|row| row.kind) {
@@ -205,14 +231,19 @@ impl<'t> Schema<'t> {
     }
 }
 
-impl Type {
-    /// Bool, number, handle: aligned to their size.
-    fn scalar(kind: Kind, size: usize) -> Self {
+/// The largest number of so many bytes, 1 to 8.
+pub(crate) fn largest(width: usize) -> u64 {
+    u64::MAX >> (64 - 8 * width)
+}
+
+impl<'t> Type<'t> {
+    /// Bool, number, enum, bits, handle: aligned to their size.
+    fn scalar(kind: Kind<'t>, size: usize) -> Self {
         Type { kind, size, alignment: size, plain: Some(1) }
     }
 
     /// What may refer out of line: aligned to 8.
-    fn record(kind: Kind, size: usize) -> Self {
+    fn record(kind: Kind<'t>, size: usize) -> Self {
         Type { kind, size, alignment: 8, plain: None }
     }
 

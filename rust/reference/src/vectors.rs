@@ -9,7 +9,7 @@ use std::collections::BTreeMap;
 use std::path::Path;
 
 /// The files that are run.
-pub const FILES: [&str; 10] = [
+pub const FILES: [&str; 11] = [
     "text.txt",
     "base.txt",
     "conformance.txt",
@@ -20,6 +20,7 @@ pub const FILES: [&str; 10] = [
     "W-209.txt",
     "W-201.txt",
     "W-202.txt",
+    "W-206.txt",
 ];
 
 /// What stands in a buffer before a call.
@@ -154,8 +155,8 @@ impl Case<'_> {
     }
 
     fn with_table(&self, call: impl FnOnce(&Self, Table) -> Result<(), String>) -> Result<(), String> {
-        let (rows, members) = (list(self.inputs[0]), list(self.inputs[1]));
-        call(self, Table { rows: &rows, members: &members })
+        let (rows, members, entries) = (list(self.inputs[0]), list(self.inputs[1]), list(self.inputs[2]));
+        call(self, Table { rows: &rows, members: &members, entries: &entries })
     }
 
     /// The first two fields that are expected: number and place.
@@ -169,7 +170,7 @@ impl Case<'_> {
         let from = self.number(1).min(message.len() as u64) as usize;
         let count = self.number(2).min((message.len() - from) as u64) as usize;
         let text = &message[from..from + count];
-        let table = Table { rows: &[6, 0, u32::MAX, 0, 7, 0, 1, 0], members: &[1, 0] };
+        let table = Table { rows: &[6, 0, u32::MAX, 0, 7, 0, 1, 0], members: &[1, 0], entries: &[] };
         let mut wire = (count as u64).to_le_bytes().to_vec();
         wire.extend([0xff; 8]);
         wire.extend(text);
@@ -201,7 +202,7 @@ impl Case<'_> {
 
     fn layout(&self) -> Result<(), String> {
         self.with_table(|case, table| {
-            let row = case.number(2) as u32;
+            let row = case.number(3) as u32;
             let (_, verdict, results) = case.answered(2, |answer| case.face.layout(table, row, answer))?;
             same("layout", format!("{verdict} {} {}", results[0], results[1]), &case.expected.join(" "))
         })
@@ -209,9 +210,9 @@ impl Case<'_> {
 
     fn check(&self, values: Option<&str>) -> Result<(), String> {
         self.with_table(|case, table| {
-            let wire = bytes(case.inputs[3]);
-            let message = Message { bytes: &wire, handles: case.number(4) };
-            let root = case.number(2) as u32;
+            let wire = bytes(case.inputs[4]);
+            let message = Message { bytes: &wire, handles: case.number(5) };
+            let root = case.number(3) as u32;
             let (_, verdict, _) = case.answered(0, |answer| case.face.check(table, root, message, answer))?;
             same("check", verdict, &case.verdict())?;
             match values {
@@ -245,11 +246,11 @@ impl Case<'_> {
     /// is lent: then only the lists lent together are compared.
     fn read(&self) -> Result<(), String> {
         self.with_table(|case, table| {
-            let wire = bytes(case.inputs[3]);
-            let message = Message { bytes: &wire, handles: case.number(4) };
-            let root = case.number(2) as u32;
-            let mut values = vec![UNTOUCHED64; room(case.inputs[5])];
-            let mut objects = vec![UNTOUCHED32; room(case.inputs[6])];
+            let wire = bytes(case.inputs[4]);
+            let message = Message { bytes: &wire, handles: case.number(5) };
+            let root = case.number(3) as u32;
+            let mut values = vec![UNTOUCHED64; room(case.inputs[6])];
+            let mut objects = vec![UNTOUCHED32; room(case.inputs[7])];
             let (number, verdict, results) = case.answered(2, |answer| {
                 case.face.read(table, root, message, &mut values, &mut objects, answer)
             })?;
@@ -279,9 +280,9 @@ impl Case<'_> {
 
     fn write(&self) -> Result<(), String> {
         self.with_table(|case, table| {
-            let values: Vec<u64> = list(case.inputs[3]);
-            let root = case.number(2) as u32;
-            let mut out = vec![UNTOUCHED; room(case.inputs[4])];
+            let values: Vec<u64> = list(case.inputs[4]);
+            let root = case.number(3) as u32;
+            let mut out = vec![UNTOUCHED; room(case.inputs[5])];
             let (_, verdict, results) =
                 case.answered(2, |answer| case.face.write(table, root, &values, &mut out, answer))?;
             let length = results[0] as usize;

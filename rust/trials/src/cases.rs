@@ -162,8 +162,8 @@ fn write_all(
 /// A message of a type, damaged more often than not, into rooms around what its lists need.
 fn read(random: &mut Random, compare: &mut Compare) -> Result<(), (Description, Different)> {
     let (mut lists, mut root, list) = some_value(random);
-    // also one that is too deep
-    let written = lists.table().schema().and_then(|schema| schema.write_to_depth(root, &list, 50));
+    // also one that is too deep, or that breaks an enum
+    let written = lists.lax().table().schema().and_then(|schema| schema.write_to_depth(root, &list, 50));
     let (mut bytes, mut handles) = written.unwrap_or_else(|_| (vec![0; 8 * random.below(12)], 0));
     damage_type(random, &mut lists, &mut root);
     if !random.one_in(4) {
@@ -239,13 +239,13 @@ fn around(random: &mut Random, needed: usize) -> usize {
 
 impl Lists {
     pub fn table(&self) -> Table<'_> {
-        Table { rows: &self.rows, members: &self.members }
+        Table { rows: &self.rows, members: &self.members, entries: &self.entries }
     }
 }
 
 /// The fields of a table, as in vectors/.
 fn describe(lists: &Lists) -> String {
-    format!("{} {}", field(&lists.rows), field(&lists.members))
+    format!("{} {} {}", field(&lists.rows), field(&lists.members), field(&lists.entries))
 }
 
 fn field<T: ToString>(numbers: &[T]) -> String {

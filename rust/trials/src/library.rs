@@ -3,19 +3,23 @@
 
 use ratlinery_reference::face::{Face, Table};
 use ratlinery_reference::{Epitaph, Header, Message};
-use ratlinery_sys::slices::{self, Asked};
+use ratlinery_sys::slices::{self, Asked, Types};
 
 /// The functions of libratlinery.a.
 #[derive(Clone, Copy, Debug)]
 pub struct Library;
 
+fn types(Table { rows, members, entries }: Table) -> Types {
+    Types { rows, members, entries }
+}
+
 fn asked<'m>(table: Table<'m>, root: u32, message: Message<'m>) -> Asked<'m> {
-    Asked { rows: table.rows, members: table.members, root, message: message.bytes, handles: message.handles }
+    Asked { types: types(table), root, message: message.bytes, handles: message.handles }
 }
 
 impl Face for Library {
     fn layout(&self, table: Table, row: u32, answer: &mut [u64]) -> u32 {
-        slices::layout(table.rows, table.members, row, answer)
+        slices::layout(types(table), row, answer)
     }
 
     fn check(&self, table: Table, root: u32, message: Message, answer: &mut [u64]) -> u32 {
@@ -57,7 +61,7 @@ impl Face for Library {
     }
 
     fn write(&self, table: Table, root: u32, values: &[u64], out: &mut [u8], answer: &mut [u64]) -> u32 {
-        slices::write(table.rows, table.members, root, values, out, answer)
+        slices::write(types(table), root, values, out, answer)
     }
 
     fn header_read(&self, message: &[u8], answer: &mut [u64]) -> u32 {

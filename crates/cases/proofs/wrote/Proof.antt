@@ -9,7 +9,7 @@ abbrev Inv-loop : tie.InvT-loop
 Inv-loop output bytes count right₀ at₀ right at = Unit {0}
 
 abbrev μ-loop : tie.MeasureT-loop
-μ-loop output bytes count right₀ at₀ right at = 1024 - at
+μ-loop output bytes count right₀ at₀ right at = 2048 - at
 
 loop-holds : tie.Need-loop-holds Inv-loop μ-loop
 loop-holds c = search needs

@@ -10,21 +10,21 @@ slice-reshare-prefix-same : tie.Need-slice-reshare-prefix-same
 slice-reshare-prefix-same c =
     let sizes = c .before in
     let written = sizes .before .before .before .before in
-    let start = written .before .before .before .before .before .before .before in
+    let start = written .before .before .before .before .before .before .before .before in
     back-starts _ _ _ _ _ (start .args .out .now) _ (start .pre) _ (written .write .ensures .0) (written .write .ensures .1 .0) (sizes .sizes .given .1) .within
 
 slice-aggregate-same : tie.Need-slice-aggregate-same
 slice-aggregate-same c =
     let sizes = c .before .before in
     let written = sizes .before .before .before .before in
-    let start = written .before .before .before .before .before .before .before in
+    let start = written .before .before .before .before .before .before .before .before in
     back-starts _ _ _ _ _ (start .args .out .now) _ (start .pre) _ (written .write .ensures .0) (written .write .ensures .1 .0) (sizes .sizes .given .1) .long
 
 returns : tie.Need-returns
 returns c =
     let f = c .before in
     let written = f .before .before .before .before in
-    let start = written .before .before .before .before .before .before .before in (
+    let start = written .before .before .before .before .before .before .before .before in (
       absurd (back-accepted _ _ _ _ _ (start .args .out .now) _ (start .pre) _ (written .write .ensures .0) (written .write .ensures .1 .0) (f .f .given .1)),
       back-output _ _ _ _ _ (start .args .out .now) _ (start .pre) (written .write .result) (written .write .ensures .0) (written .write .ensures .1 .0),
     )
@@ -33,7 +33,7 @@ returns-2 : tie.Need-returns-2
 returns-2 c =
     let sizes = c .before .before .before .before in
     let written = sizes .before .before .before .before in
-    let start = written .before .before .before .before .before .before .before in (
+    let start = written .before .before .before .before .before .before .before .before in (
       refl,
       back-output _ _ _ _ _ (start .args .out .now) _ (start .pre) (written .write .result) (written .write .ensures .0) (written .write .ensures .1 .0),
     )
@@ -42,7 +42,7 @@ returns-3 : tie.Need-returns-3
 returns-3 c =
     let sizes = c .before .before .before .before in
     let written = sizes .before .before .before .before in
-    let start = written .before .before .before .before .before .before .before in
+    let start = written .before .before .before .before .before .before .before .before in
     absurd (never-different
     (c .before .same .ensures .1 (back-starts _ _ _ _ _ (start .args .out .now) _ (start .pre) _ (written .write .ensures .0) (written .write .ensures .1 .0) (sizes .sizes .given .1) .same))
     (back-handles _ _ _ _ _ (start .args .out .now) _ (start .pre) _ (written .write .ensures .0) (written .write .ensures .1 .0) (sizes .sizes .given .1))

@@ -10,20 +10,20 @@ returns : tie.Need-returns
 returns c =
     let f = c .before .before .before in
     let read = f .before .before .before in
-    let start = read .before .before .before .before .before in
+    let start = read .before .before .before .before .before .before in
     needs-values _ _ (start .pre) (read .read-values .result) (read .read-values .ensures .0) (start .args .room) (f .f .given .1) (c .before .place-number .ensures) (omega arith)
 
 returns-2 : tie.Need-returns-2
 returns-2 c =
     let f = c .before .before .before in
     let read = f .before .before .before in
-    let start = read .before .before .before .before .before in
+    let start = read .before .before .before .before .before .before in
     needs-bytes _ _ (start .pre) (read .read-values .result) (read .read-values .ensures .0) (start .args .room) (f .f .given .1) (c .before .place-number .ensures) (omega arith)
 
 returns-3 : tie.Need-returns-3
 returns-3 c =
     let read = c .before .before .before in
-    let start = read .before .before .before .before .before in
+    let start = read .before .before .before .before .before .before in
     no-values _ _ (start .pre) (read .read-values .result) (read .read-values .ensures .0) (start .args .room) (c .enum-told .given .1)
 
 pub needed-spec : {M : Type 1} → statement M

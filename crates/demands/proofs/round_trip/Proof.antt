@@ -9,21 +9,21 @@ use Rattle.demands.proofs.round_trip.Tie as tie
 returns : tie.Need-returns
 returns c =
     let f = c .before in
-    trip-unchecked _ _ _ _ _ (f .before .before .check .result) (f .before .before .check .ensures .0) (f .f .given .1)
+    trip-unchecked _ _ _ _ _ _ (f .before .before .check .result) (f .before .before .check .ensures .0) (f .f .given .1)
 
 needed-requires : tie.Need-needed-requires
 needed-requires c κs =
     let told = c .before in
     let checked = told .before .before in
-    passed _ _ _ _ _ (checked .check .result) (checked .check .ensures .0) (told .enum-told .given .1)
+    passed _ _ _ _ _ _ (checked .check .result) (checked .check .ensures .0) (told .enum-told .given .1)
 
 returns-2 : tie.Need-returns-2
 returns-2 c =
     let told = c .before .before in
     let checked = told .before .before in
-    let start = checked .before .before .before .before .before .before in
-    trip-short _ _ _ _ _ (checked .check .result) (checked .check .ensures .0) (told .enum-told .given .1)
-    (octets (start .args .message .now) (λ i. omega (arith, checked .before .before .before .shared-slice-known3 .given i))) (omega arith) (c .needed .ensures)
+    let start = checked .before .before .before .before .before .before .before in
+    trip-short _ _ _ _ _ _ (checked .check .result) (checked .check .ensures .0) (told .enum-told .given .1)
+    (octets (start .args .message .now) (λ i. omega (arith, checked .before .before .before .shared-slice-known4 .given i))) (omega arith) (c .needed .ensures)
 
 slice-reshare-prefix-back : tie.Need-slice-reshare-prefix-back
 slice-reshare-prefix-back c =
@@ -31,8 +31,8 @@ slice-reshare-prefix-back c =
     let read = count .before .before .before .before in
     let told = read .before .before .before in
     let checked = told .before .before in
-    let start = checked .before .before .before .before .before .before in
-    read-starts _ _ _ _ _ (checked .check .result) (checked .check .ensures .0) (told .enum-told .given .1) (start .args .values .now) _ _ (read .read-values .ensures .0) (read .read-values .ensures .1 .0) (count .count .given .1) .within
+    let start = checked .before .before .before .before .before .before .before in
+    read-starts _ _ _ _ _ _ (checked .check .result) (checked .check .ensures .0) (told .enum-told .given .1) (start .args .values .now) _ _ (read .read-values .ensures .0) (read .read-values .ensures .1 .0) (count .count .given .1) .within
 
 slice-aggregate-back : tie.Need-slice-aggregate-back
 slice-aggregate-back c =
@@ -40,8 +40,8 @@ slice-aggregate-back c =
     let read = count .before .before .before .before in
     let told = read .before .before .before in
     let checked = told .before .before in
-    let start = checked .before .before .before .before .before .before in
-    read-starts _ _ _ _ _ (checked .check .result) (checked .check .ensures .0) (told .enum-told .given .1) (start .args .values .now) _ _ (read .read-values .ensures .0) (read .read-values .ensures .1 .0) (count .count .given .1) .long
+    let start = checked .before .before .before .before .before .before .before in
+    read-starts _ _ _ _ _ _ (checked .check .result) (checked .check .ensures .0) (told .enum-told .given .1) (start .args .values .now) _ _ (read .read-values .ensures .0) (read .read-values .ensures .1 .0) (count .count .given .1) .long
 
 back-requires : tie.Need-back-requires
 back-requires c κs =
@@ -49,9 +49,9 @@ back-requires c κs =
     let read = count .before .before .before .before in
     let told = read .before .before .before in
     let checked = told .before .before in
-    let start = checked .before .before .before .before .before .before in (
-      read-written _ _ _ _ _ (checked .check .result) (checked .check .ensures .0) (told .enum-told .given .1) (start .args .values .now) _ _ (read .read-values .ensures .0) (read .read-values .ensures .1 .0)
-          (octets (start .args .message .now) (λ i. omega (arith, checked .before .before .before .shared-slice-known3 .given i))) (count .count .given .1),
+    let start = checked .before .before .before .before .before .before .before in (
+      read-written _ _ _ _ _ _ (checked .check .result) (checked .check .ensures .0) (told .enum-told .given .1) (start .args .values .now) _ _ (read .read-values .ensures .0) (read .read-values .ensures .1 .0)
+          (octets (start .args .message .now) (λ i. omega (arith, checked .before .before .before .shared-slice-known4 .given i))) (count .count .given .1),
       omega arith,
     )
 
@@ -61,8 +61,8 @@ returns-3 c =
     let read = f .before .before .before .before in
     let told = read .before .before .before in
     let checked = told .before .before in
-    let start = checked .before .before .before .before .before .before in
-    trip-unread _ _ _ _ _ (checked .check .result) (checked .check .ensures .0) (told .enum-told .given .1) (start .args .values .now) _ _ (read .read-values .ensures .0) (read .read-values .ensures .1 .0) (f .f2 .given .1)
+    let start = checked .before .before .before .before .before .before .before in
+    trip-unread _ _ _ _ _ _ (checked .check .result) (checked .check .ensures .0) (told .enum-told .given .1) (start .args .values .now) _ _ (read .read-values .ensures .0) (read .read-values .ensures .1 .0) (f .f2 .given .1)
 
 returns-4 : tie.Need-returns-4
 returns-4 c =
@@ -71,9 +71,9 @@ returns-4 c =
     let read = count .before .before .before .before in
     let told = read .before .before .before in
     let checked = told .before .before in
-    let start = checked .before .before .before .before .before .before in
-    trip-back _ _ _ _ _ (checked .check .result) (checked .check .ensures .0) (told .enum-told .given .1) (start .args .values .now) _ _ (read .read-values .ensures .0) (read .read-values .ensures .1 .0) (start .args .out .now) _
-    (octets (start .args .message .now) (λ i. omega (arith, checked .before .before .before .shared-slice-known3 .given i))) (omega arith) (count .count .given .1) (back .back .ensures)
+    let start = checked .before .before .before .before .before .before .before in
+    trip-back _ _ _ _ _ _ (checked .check .result) (checked .check .ensures .0) (told .enum-told .given .1) (start .args .values .now) _ _ (read .read-values .ensures .0) (read .read-values .ensures .1 .0) (start .args .out .now) _
+    (octets (start .args .message .now) (λ i. omega (arith, checked .before .before .before .shared-slice-known4 .given i))) (omega arith) (count .count .given .1) (back .back .ensures)
 
 pub round-trip-spec : {M : Type 1} → statement M
 round-trip-spec =

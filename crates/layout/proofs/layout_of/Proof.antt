@@ -18,23 +18,23 @@ use Rattle.layout.proofs.layout_of.Tie as tie
 unsound : tie.Need-returns
 unfolding layoutAnswer
 unsound c =
-    let a = c .before .before .before .before .before .before .before .before .args in
-    let t = typeTable (a .rows .now) (a .members .now) in
+    let a = c .before .before .before .before .before .before .before .before .before .args in
+    let t = typeTable (a .rows .now) (a .members .now) (a .entries .now) in
     let p = c .before .before .before .climb in
     let f = c .before .verdict .given .0 .0 in
     answered (Refused f) (rw (verdict-refused t (p .result) f (p .ensures .0) (search needs)))
 
 sound : (c : tie.After-enum-told)
-    → let a = c .before .before .before .before .before .before .before .args in
-    soundness (typeTable (a .rows .now) (a .members .now)) ≡ accepted tt
+    → let a = c .before .before .before .before .before .before .before .before .args in
+    soundness (typeTable (a .rows .now) (a .members .now) (a .entries .now)) ≡ accepted tt
 sound c =
     let p = c .before .before .climb in verdict-sound _ (p .result) (p .ensures .0) (search needs)
 
 laid : tie.Need-returns-2
 unfolding layoutAnswer
 laid c =
-    let a = c .before .before .before .before .before .before .before .before .before .before .before .args in
-    let t = typeTable (a .rows .now) (a .members .now) in
+    let a = c .before .before .before .before .before .before .before .before .before .before .before .before .args in
+    let t = typeTable (a .rows .now) (a .members .now) (a .entries .now) in
     let p = c .before .before .before .before .before .before .climb in
     let s = sound (c .before .before .before .before) in
     let in-use : a .row < rowCount t = omega (arith, c .before .before .before .if1 .taken) in
@@ -45,8 +45,8 @@ laid c =
 no-row : tie.Need-returns-3
 unfolding layoutAnswer
 no-row c =
-    let a = c .before .before .before .before .before .before .before .before .args in
-    answered (Refused _) (rw (sound (c .before), le-ltb (a .row) (rowCount (typeTable (a .rows .now) (a .members .now))) (omega (arith, c .if1 .left))))
+    let a = c .before .before .before .before .before .before .before .before .before .args in
+    answered (Refused _) (rw (sound (c .before), le-ltb (a .row) (rowCount (typeTable (a .rows .now) (a .members .now) (a .entries .now))) (omega (arith, c .if1 .left))))
 
 pub layout-of-spec : {M : Type 1} → statement M
 layout-of-spec =

@@ -25,16 +25,16 @@ abbrev answer-at : tie.After-objects-room → Answer Lists
 answer-at c = read (messageOf (bytes-at c)) 4 (length (c .before .values-room .result)) (length (c .objects-room .result))
 
 abbrev values-at : tie.After-lengths → List ℕ
-values-at c = c .before .before .before .before .read .last .1 .1 .1 .1 .1 .0
+values-at c = c .before .before .before .before .read .last .1 .1 .1 .1 .1 .1 .0
 
 abbrev objects-at : tie.After-lengths → List ℕ
-objects-at c = c .before .before .before .before .read .last .1 .1 .1 .1 .1 .1 .0
+objects-at c = c .before .before .before .before .read .last .1 .1 .1 .1 .1 .1 .1 .0
 
 held : (c : tie.After-lengths)
-    → Listed (answer-at (c .before .before .before .before .before .before .before .before .before)) (c .lengths .given .0 .0) (values-at c) (objects-at c)
+    → Listed (answer-at (c .before .before .before .before .before .before .before .before .before .before)) (c .lengths .given .0 .0) (values-at c) (objects-at c)
 held c =
     let given = c .before .before .before .before in
-    let lent = given .before .before .before .before .before in
+    let lent = given .before .before .before .before .before .before in
     listed (answer-at lent) (lent .before .values-room .result) (lent .objects-room .result) (given .read .ensures) (c .lengths .given .1)
 
 few : (c : tie.After-lengths)
@@ -44,11 +44,11 @@ few : (c : tie.After-lengths)
 few c =
     let lists = held c in
     let given = c .before .before .before .before in
-    let lent = given .before .before .before .before .before in (
+    let lent = given .before .before .before .before .before .before in (
       sym (length-take-le (c .lengths .given .0 .0 .objects) (objects-at c) (lists .objects-within)),
       sym (length-take-le (c .lengths .given .0 .0 .values) (values-at c) (lists .values-within)),
-      omega (arith, lists .objects-within, given .read .kept .1 .1 .1 .1 .1 .1 .0, lent .objects-room .ensures),
-      omega (arith, lists .values-within, given .read .kept .1 .1 .1 .1 .1 .0, lent .before .values-room .ensures),
+      omega (arith, lists .objects-within, given .read .kept .1 .1 .1 .1 .1 .1 .1 .0, lent .objects-room .ensures),
+      omega (arith, lists .values-within, given .read .kept .1 .1 .1 .1 .1 .1 .0, lent .before .values-room .ensures),
     )
 
 array-share-prefix-objects : tie.Need-array-share-prefix-objects
@@ -72,7 +72,7 @@ returns-2 : tie.Need-returns-2
 returns-2 c =
     let refused = c .before .before .before .before .before in
     let given = refused .before .before .before .before in
-    let lent = given .before .before .before .before .before in
+    let lent = given .before .before .before .before .before .before in
     listing-refused (bytes-at lent) (lent .before .values-room .result) (lent .objects-room .result) (omega arith)
     (lent .before .values-room .ensures, lent .objects-room .ensures) (given .read .result) (given .read .ensures) (refused .f .given .1)
     (c .before .before .put-refusal2 .ensures)
@@ -82,7 +82,7 @@ returns-3 c =
     let head = c .before .before .before .before .before .before .before .before in
     let accepted = head .before .before .before in
     let given = accepted .before .before .before .before in
-    let lent = given .before .before .before .before .before in
+    let lent = given .before .before .before .before .before .before in
     let sizes = few accepted in
     listing-accepted (bytes-at lent) (lent .before .values-room .result) (lent .objects-room .result) (omega arith)
     (lent .before .values-room .ensures, lent .objects-room .ensures) (given .read .result) (given .read .ensures) (accepted .lengths .given .1)
@@ -93,7 +93,7 @@ listing-spec =
     tie.close
     (tie.spec
     (λ c κs. search needs) (λ c. search needs) returns (λ c κs. search needs) (λ c κs. search needs)
-    (λ c. search needs) (λ c. search needs) (λ c. search needs) (λ c. search needs)
+    (λ c. search needs) (λ c. search needs) (λ c. search needs) (λ c. search needs) (λ c. search needs)
     (λ c κs. search needs)
     (λ c. search needs) (λ c κs. search needs) (λ c. search needs) (λ c κs. search needs)
     array-share-prefix-objects slice-aggregate-put-lists array-share-prefix-values slice-aggregate-put-lists-2 put-lists-requires

@@ -18,4 +18,4 @@ pub flat-width-spec : {M : Type 1} → statement M
 flat-width-spec =
     tie.close
     (tie.spec
-    (λ c. search needs) (λ c κs. search needs) returns (λ c. search needs) (λ c. search needs) (λ c κs. search needs) returns-2 returns-3)
+    (λ c κs. search needs) returns (λ c κs. search needs) returns-2 returns-3)

@@ -13,7 +13,7 @@ returns c = search (needs, plan-past)
 
 returns-2 : tie.Need-returns-2
 unfolding planAs zeros
-returns-2 c = plan-bool (c .before .before .before .before .before .args .rows .now) (c .before .before .before .before .before .args .members .now) (c .before .before .before .before .before .args .alignments .now) (c .before .before .before .before .before .args .row) (c .before .before .if1 .left) (c .before .number-at .ensures) (c .if2 .taken) refl
+returns-2 c = plan-bool (c .before .before .before .before .before .args .rows .now) (c .before .before .before .before .before .args .members .now) (c .before .before .before .before .before .args .alignments .now) (c .before .before .before .before .before .args .row) (c .before .before .if1 .left) (c .before .kind-at .ensures) (c .if2 .taken) refl
 
 flat-members-requires : tie.Need-flat-members-requires
 flat-members-requires c κs = (search needs, search (needs, struct-few))
@@ -28,5 +28,4 @@ pub plan-of-spec : {M : Type 1} → statement M
 plan-of-spec =
     tie.close
     (tie.spec
-    (λ c κs. search needs) returns (λ c. search needs) (λ c κs. search needs) returns-2 (λ c. search needs) (λ c. search needs)
-    (λ c κs. search needs) (λ c. search needs) flat-members-requires returns-3 (λ c κs. search needs) returns-4)
+    (λ c κs. search needs) returns (λ c κs. search needs) returns-2 (λ c κs. search needs) (λ c. search needs) flat-members-requires returns-3 (λ c κs. search needs) returns-4)

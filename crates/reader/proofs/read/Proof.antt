@@ -24,7 +24,7 @@ pass-requires : tie.Need-pass-requires
 pass-requires c κs =
     let accepted = c .before .before .before .before .before .before .before .before .before in
     let judged = accepted .before .before .judge in
-    judged-walkable _ _ _ _ _ _ _ (judged .ensures .0) (accepted .lengths .given .1) (judged .ensures .1 .0) (judged .ensures .1 .1)
+    judged-walkable _ _ _ _ _ _ _ _ (judged .ensures .0) (accepted .lengths .given .1) (judged .ensures .1 .0) (judged .ensures .1 .1)
 
 returns-3 : tie.Need-returns-3
 returns-3 c = both-refused _ _ _ _ (c .before .before .before .judge .ensures .0) _ _ (c .before .f .given .1)

@@ -17,5 +17,4 @@ pub member-cell-spec : {M : Type 1} → statement M
 member-cell-spec =
     tie.close
     (tie.spec
-    returns (λ c. search needs) (λ c. search needs) returns-2 (λ c. search needs) (λ c. search needs) (λ c. search needs)
-    (λ c. search needs))
+    returns (λ c. search needs) (λ c. search needs) returns-2 (λ c. search needs) (λ c. search needs) (λ c. search needs))

@@ -17,7 +17,10 @@ pub struct Workload {
 impl Workload {
     /// The message that a value list is written to.
     fn new(name: &str, rows: &[u32], members: &[u32], root: u32, values: Vec<u64>) -> Self {
-        let lists = Lists { rows: rows.to_vec(), members: members.to_vec() };
+        Self::of_lists(name, Lists::new(rows, members), root, values)
+    }
+
+    fn of_lists(name: &str, lists: Lists, root: u32, values: Vec<u64>) -> Self {
         let written = lists.table().schema().and_then(|schema| schema.write(root, &values));
         let (bytes, handles) = written.unwrap_or_else(|refusal| panic!("{name}: {refusal:?}"));
         Workload { name: name.into(), lists, root, bytes, handles, values }
@@ -25,7 +28,7 @@ impl Workload {
 
     /// A type table whose last row is laid out.
     fn table(name: &str, rows: &[[u32; 4]], members: &[[u32; 2]]) -> Self {
-        let lists = Lists { rows: rows.concat(), members: members.concat() };
+        let lists = Lists::new(&rows.concat(), &members.concat());
         let bytes = lists.rows.iter().chain(&lists.members).flat_map(|number| number.to_le_bytes()).collect();
         Workload {
             name: name.into(),
@@ -56,8 +59,10 @@ pub fn all() -> Vec<Workload> {
         mixed_table(),
         plain_structs(LARGE),
         filled_structs("structs with bool and fill", LARGE),
-        numbers("bytes", [2, 1, 0, 0], (0..LARGE).map(|i| i as u64 % 251)),
-        numbers("bools", [1, 0, 0, 0], (0..LARGE).map(|i| i as u64 / 3 % 2)),
+        numbers("bytes", [2, 1, 0, 0], &[], (0..LARGE).map(|i| i as u64 % 251)),
+        numbers("bools", [1, 0, 0, 0], &[], (0..LARGE).map(|i| i as u64 / 3 % 2)),
+        strict_enums(),
+        strict_bits(),
         text("ASCII text", ASCII),
         text("mixed text", MIXED),
         boxes(),
@@ -178,10 +183,30 @@ fn strings(name: &str, bytes: usize) -> Workload {
 }
 
 /// A vector of a row that has one number.
-fn numbers(name: &str, row: [u32; 4], elements: impl ExactSizeIterator<Item = u64>) -> Workload {
+fn numbers(
+    name: &str,
+    row: [u32; 4],
+    entries: &[u64],
+    elements: impl ExactSizeIterator<Item = u64>,
+) -> Workload {
     let rows = [row, [5, 0, u32::MAX, 0], [7, 0, 1, 0]].concat();
+    let lists = Lists { entries: entries.to_vec(), ..Lists::new(&rows, &[1, 1]) };
     let values = counted(elements.len(), elements);
-    Workload::new(name, &rows, &[1, 1], 2, values)
+    Workload::of_lists(name, lists, 2, values)
+}
+
+/// Buttons, of which there are 14, in an order that nobody can foresee.
+fn strict_enums() -> Workload {
+    let entries: Vec<u64> = (0..14).map(|button| 3 * button + 1).collect();
+    let mut random = Random::of_case(1, 3);
+    let elements = (0..LARGE).map(|_| random.pick(&entries));
+    numbers("strict enums", [11, 1, 0, 14], &entries, elements)
+}
+
+/// Of one byte: as many values as the vectors of bytes, bools and enums have, so that only what is judged differs.
+fn strict_bits() -> Workload {
+    const MASK: u64 = 0b0110_1111;
+    numbers("strict bits", [12, 1, 0, 1], &[MASK], (0..LARGE).map(|i| i as u64 & MASK))
 }
 
 fn counted(count: usize, elements: impl Iterator<Item = u64>) -> Vec<u64> {

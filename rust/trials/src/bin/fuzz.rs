@@ -56,7 +56,7 @@ fn given(tally: &Tally, function: &str, number: u32) -> u64 {
 
 /// Each function with the numbers that it can give.
 fn can_give() -> [(&'static str, Vec<u32>); 10] {
-    let judged: Vec<u32> = (0..=21).chain([28, 35]).collect();
+    let judged: Vec<u32> = (0..=21).chain([28, 29, 35]).collect();
     let read: Vec<u32> = judged.iter().copied().chain([22]).collect();
     [
         ("layout", vec![0, 1, 2]),

@@ -1,7 +1,7 @@
 //! Damage: small changes to a type table, a value list or a message, of the kinds that tests are about.
 
 use super::table::Lists;
-use super::text;
+use super::{strict, text};
 use crate::random::Random;
 
 /// Numbers at which something changes.
@@ -32,17 +32,32 @@ const EDGES: [u64; 24] = [
     u64::MAX,
 ];
 
-/// A cell of a table becomes another number, or a list loses its whole length.
+/// A strict row becomes unsound, or a list is changed.
 pub fn table(random: &mut Random, lists: &mut Lists) {
-    let list = if random.one_in(3) { &mut lists.members } else { &mut lists.rows };
+    if random.one_in(3)
+        && let Some(row) = strict::some_row(random, lists)
+    {
+        return strict::damage(random, lists, row);
+    }
+    match random.below(9) {
+        0 => list(random, &mut lists.entries, |number| number),
+        1..4 => list(random, &mut lists.members, |number| number as u32),
+        _ => list(random, &mut lists.rows, |number| number as u32),
+    }
+}
+
+/// A cell of a list becomes another number, or the list loses its whole length.
+fn list<T: Copy + Default + Into<u64>>(random: &mut Random, list: &mut Vec<T>, cell: impl Fn(u64) -> T) {
     match random.below(12) {
         0 => drop(list.pop()),
-        1 => list.push(random.below(12) as u32),
-        2 if random.one_in(30) => list.resize(random.pick(&[0, 1024, 1028, 2048, 2050]), 0),
+        1 => list.push(cell(random.below(12) as u64)),
+        2 if random.one_in(30) => {
+            list.resize(random.pick(&[0, 1024, 1025, 1028, 2048, 2050]), T::default());
+        }
         _ if list.is_empty() => {}
         _ => {
             let at = random.below(list.len());
-            list[at] = number(random, u64::from(list[at])) as u32;
+            list[at] = cell(number(random, list[at].into()));
         }
     }
 }

@@ -2,6 +2,7 @@
 
 pub mod damage;
 pub mod header;
+pub mod strict;
 pub mod table;
 pub mod text;
 pub mod values;

@@ -1,5 +1,6 @@
 //! Random type tables. They are sound but for a size that is too large now and then.
 
+use super::strict;
 use crate::random::Random;
 
 /// The lists of a type table.
@@ -7,9 +8,15 @@ use crate::random::Random;
 pub struct Lists {
     pub rows: Vec<u32>,
     pub members: Vec<u32>,
+    pub entries: Vec<u64>,
 }
 
 impl Lists {
+    /// Without entries.
+    pub fn new(rows: &[u32], members: &[u32]) -> Self {
+        Lists { rows: rows.to_vec(), members: members.to_vec(), entries: Vec::new() }
+    }
+
     /// How many whole rows there are.
     pub fn count(&self) -> usize {
         self.rows.len() / 4
@@ -26,6 +33,28 @@ impl Lists {
         let members = self.members.as_chunks().0;
         let first = members.len().min(first as usize);
         &members[first..members.len().min(first + count as usize)]
+    }
+
+    /// Whether a row is a strict enum or strict bits.
+    pub fn is_strict(&self, row: u32) -> bool {
+        matches!(self.row(row)[0], 11 | 12)
+    }
+
+    /// The entries that such a row names, in a sound table.
+    pub fn entries_of(&self, row: u32) -> &[u64] {
+        let [_, _, first, count] = self.row(row);
+        &self.entries[first as usize..][..count as usize]
+    }
+
+    /// The same table with any pattern for a value of a strict row.
+    pub fn lax(&self) -> Lists {
+        let mut lax = self.clone();
+        for row in lax.rows.as_chunks_mut::<4>().0 {
+            if let [11 | 12, width, _, _] = *row {
+                *row = [2, width, 0, 0];
+            }
+        }
+        lax
     }
 }
 
@@ -71,7 +100,7 @@ fn chain(random: &mut Random) -> (Lists, u32) {
         // a table without members: all its content is unknown
         _ => (&[9, 0, 0, 0], &[], 0),
     };
-    (Lists { rows: rows.to_vec(), members: members.to_vec() }, root)
+    (Lists::new(rows, members), root)
 }
 
 /// Rows of all kinds.
@@ -84,7 +113,7 @@ fn mixed(random: &mut Random, count: usize) -> (Lists, u32) {
     let structs: Vec<u32> = (0..count as u32).filter(|&row| kinds[row as usize] == 7).collect();
     let mut lists = Lists::default();
     for (row, kind) in kinds.into_iter().enumerate() {
-        let cells = cells(random, &mut lists.members, &structs, row as u32, count as u32, kind);
+        let cells = cells(random, &mut lists, &structs, row as u32, count as u32, kind);
         lists.rows.extend(cells);
     }
     (lists, root as u32)
@@ -92,19 +121,20 @@ fn mixed(random: &mut Random, count: usize) -> (Lists, u32) {
 
 /// Row 0 has nothing to be made of, but for an empty struct.
 fn kind(random: &mut Random, row: usize) -> u32 {
-    let kind = random.pick(&[1, 2, 2, 2, 3, 4, 5, 5, 6, 6, 7, 7, 8, 9, 9, 10, 10]);
+    let kind = random.pick(&[1, 2, 2, 2, 3, 4, 5, 5, 6, 6, 7, 7, 8, 9, 9, 10, 10, 11, 11, 12]);
     if row == 0 && kind == 4 { 2 } else { kind }
 }
 
 fn cells(
     random: &mut Random,
-    members: &mut Vec<u32>,
+    lists: &mut Lists,
     structs: &[u32],
     row: u32,
     count: u32,
     kind: u32,
 ) -> [u32; 4] {
     let flag = random.below(2) as u32;
+    let members = &mut lists.members;
     match kind {
         1 => [1, 0, 0, 0],
         2 => [2, random.pick(&[1, 1, 2, 4, 8]), 0, 0],
@@ -125,6 +155,7 @@ fn cells(
             let parts = random.between(1, 5) as u32;
             [10, rising_members(random, members, count, parts), parts, random.below(4) as u32]
         }
+        11 | 12 => strict::row(random, lists, kind),
         _ => [2, 8, 0, 0],
     }
 }

@@ -1,7 +1,7 @@
-//! Random value lists of a type. Most are values; some go too deep, hold bad text or have too many handles.
+//! Random value lists of a type. Most are values; some go too deep, hold bad text, have too many handles or break an enum.
 
 use super::table::Lists;
-use super::text;
+use super::{strict, text};
 use crate::random::Random;
 
 /// Past this depth nothing more is made: the list is refused before.
@@ -15,7 +15,8 @@ pub fn values(random: &mut Random, lists: &Lists, root: u32) -> Vec<u64> {
     } else {
         (5, random.between(1, 60))
     };
-    let mut maker = Maker { random, lists, values: Vec::new(), depth, budget };
+    let strangers = random.one_in(6).then(|| random.pick(&[3, 3, 30, 3000]));
+    let mut maker = Maker { random, lists, values: Vec::new(), depth, budget, strangers };
     maker.value(root, 0);
     maker.values
 }
@@ -28,6 +29,8 @@ struct Maker<'m> {
     depth: usize,
     /// How many numbers it should have.
     budget: usize,
+    /// If so, one in so many numbers of strict enums and bits is not among their values.
+    strangers: Option<usize>,
 }
 
 impl Maker<'_> {
@@ -65,6 +68,7 @@ impl Maker<'_> {
             }
             9 => self.table(row, depth),
             10 => self.union(row, c, depth),
+            11 | 12 => self.strict(row),
             _ => {}
         }
     }
@@ -85,6 +89,15 @@ impl Maker<'_> {
         self.values.push(number >> (64 - bits));
     }
 
+    fn strict(&mut self, row: u32) {
+        let number = if self.strangers.is_some_and(|times| self.random.one_in(times)) {
+            strict::stranger(self.random, self.lists, row)
+        } else {
+            strict::value(self.random, self.lists, row)
+        };
+        self.values.push(number);
+    }
+
     fn handle(&mut self, optional: u32) {
         let present = optional == 0 || self.random.one_in(2);
         self.values.push(present.into());
@@ -95,8 +108,12 @@ impl Maker<'_> {
             return self.values.push(0);
         }
         let most = if self.wants(depth) { if self.depth > 20 { 1 } else { 6 } } else { 0 };
-        let long = self.random.one_in(400) && self.lists.row(element)[0] <= 2;
-        let count = if long { self.random.pick(&[300, 8184, 65_520]) } else { self.random.below(most + 1) };
+        let number = matches!(self.lists.row(element)[0], 1 | 2 | 11 | 12);
+        let count = match self.random.below(400) {
+            0 if number => self.random.pick(&[300, 8184, 65_520]),
+            1..20 if number => self.random.below(80),
+            _ => self.random.below(most + 1),
+        };
         let count = count.min(largest as usize);
         self.values.push(count as u64 + 1);
         (0..count).for_each(|_| self.value(element, depth + 1));

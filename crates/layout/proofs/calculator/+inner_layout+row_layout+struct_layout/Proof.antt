@@ -34,45 +34,45 @@ use Rattle.table.proofs.row_of.Reads as row-of-reads
 use Rattle.layout.proofs.calculator.+inner_layout+row_layout+struct_layout.{statement}
 use Rattle.layout.proofs.calculator.+inner_layout+row_layout+struct_layout.Tie.{close}
 
-abbrev μ-inner-layout : Measures 4 inner-layout-kinds.ps ℕ
-μ-inner-layout κs a = 3 * a .1 .1 .1 .1 .1 .0 + 2
+abbrev μ-inner-layout : Measures 5 inner-layout-kinds.ps ℕ
+μ-inner-layout κs a = 3 * a .1 .1 .1 .1 .1 .1 .0 + 2
 
-abbrev μ-row-layout : Measures 4 row-layout-kinds.ps ℕ
-μ-row-layout κs a = 3 * a .1 .1 .1 .1 .1 .0 + 1
+abbrev μ-row-layout : Measures 5 row-layout-kinds.ps ℕ
+μ-row-layout κs a = 3 * a .1 .1 .1 .1 .1 .1 .0 + 1
 
-abbrev μ-struct-layout : Measures 4 struct-layout-kinds.ps ℕ
-μ-struct-layout κs a = 3 * a .1 .1 .1 .1 .1 .0
+abbrev μ-struct-layout : Measures 5 struct-layout-kinds.ps ℕ
+μ-struct-layout κs a = 3 * a .1 .1 .1 .1 .1 .1 .0
 
-abbrev inner-layout-at : ℕ → In 4 inner-layout-kinds.ps
+abbrev inner-layout-at : ℕ → In 5 inner-layout-kinds.ps
 inner-layout-at t =
-    and 4 inner-layout-kinds.ps (is 4 inner-layout-kinds.ps μ-inner-layout t) inner-layout.Pre
+    and 5 inner-layout-kinds.ps (is 5 inner-layout-kinds.ps μ-inner-layout t) inner-layout.Pre
 
-abbrev inner-layout-below : ℕ → In 4 inner-layout-kinds.ps
+abbrev inner-layout-below : ℕ → In 5 inner-layout-kinds.ps
 inner-layout-below t =
-    and 4 inner-layout-kinds.ps (falls 4 inner-layout-kinds.ps _<_ μ-inner-layout t) inner-layout.Pre
+    and 5 inner-layout-kinds.ps (falls 5 inner-layout-kinds.ps _<_ μ-inner-layout t) inner-layout.Pre
 
-abbrev row-layout-at : ℕ → In 4 row-layout-kinds.ps
+abbrev row-layout-at : ℕ → In 5 row-layout-kinds.ps
 row-layout-at t =
-    and 4 row-layout-kinds.ps (is 4 row-layout-kinds.ps μ-row-layout t) row-layout.Pre
+    and 5 row-layout-kinds.ps (is 5 row-layout-kinds.ps μ-row-layout t) row-layout.Pre
 
-abbrev row-layout-below : ℕ → In 4 row-layout-kinds.ps
+abbrev row-layout-below : ℕ → In 5 row-layout-kinds.ps
 row-layout-below t =
-    and 4 row-layout-kinds.ps (falls 4 row-layout-kinds.ps _<_ μ-row-layout t) row-layout.Pre
+    and 5 row-layout-kinds.ps (falls 5 row-layout-kinds.ps _<_ μ-row-layout t) row-layout.Pre
 
-abbrev struct-layout-at : ℕ → In 4 struct-layout-kinds.ps
+abbrev struct-layout-at : ℕ → In 5 struct-layout-kinds.ps
 struct-layout-at t =
-    and 4 struct-layout-kinds.ps (is 4 struct-layout-kinds.ps μ-struct-layout t) struct-layout.Pre
+    and 5 struct-layout-kinds.ps (is 5 struct-layout-kinds.ps μ-struct-layout t) struct-layout.Pre
 
-abbrev struct-layout-below : ℕ → In 4 struct-layout-kinds.ps
+abbrev struct-layout-below : ℕ → In 5 struct-layout-kinds.ps
 struct-layout-below t =
-    and 4 struct-layout-kinds.ps (falls 4 struct-layout-kinds.ps _<_ μ-struct-layout t) struct-layout.Pre
+    and 5 struct-layout-kinds.ps (falls 5 struct-layout-kinds.ps _<_ μ-struct-layout t) struct-layout.Pre
 
 abbrev struct-layout-Inv-loop : struct-layout-lts.InvT-loop
-struct-layout-Inv-loop rows members sizes alignments kept row next₀ left₀ so-far₀ next left so-far =
-    Placing (typeTable rows members) row next left so-far
+struct-layout-Inv-loop rows members entries sizes alignments kept row next₀ left₀ so-far₀ next left so-far =
+    Placing (typeTable rows members entries) row next left so-far
 
 abbrev struct-layout-μ-loop : struct-layout-lts.MeasureT-loop
-struct-layout-μ-loop rows members sizes alignments kept row next₀ left₀ so-far₀ next left so-far = left
+struct-layout-μ-loop rows members entries sizes alignments kept row next₀ left₀ so-far₀ next left so-far = left
 
 pub +inner-layout+row-layout+struct-layout-spec : {M : Type 1} → statement M
 +inner-layout+row-layout+struct-layout-spec =
@@ -88,11 +88,11 @@ pub +inner-layout+row-layout+struct-layout-spec : {M : Type 1} → statement M
     -- a row that is kept
     (λ c κs. search needs)
     (λ c.
-    let s = c .before .before .before .before in
+    let s = c .before .before .before .before .before in
     c .kept-at .ensures ∙ kept-row (s .pre .1 .below) (s .args .row) (c .before .if1 .taken))
     -- and one that is not
     (λ c κs.
-    let s = c .before .before .before in
+    let s = c .before .before .before .before in
     (omega (arith, s .pre .0), s .pre .1))
     (λ c. search needs))
     (λ t. row-layout-lts.spec (
@@ -117,34 +117,34 @@ pub +inner-layout+row-layout+struct-layout-spec : {M : Type 1} → statement M
     (λ c κs. search needs)
     -- an array: its element's row is below its own
     (λ c κs.
-    let s = c .before .before .before .before .before in
-    let y = typeTable (s .args .rows .now) (s .args .members .now) in
+    let s = c .before .before .before .before .before .before in
+    let y = typeTable (s .args .rows .now) (s .args .members .now) (s .args .entries .now) in
     let kind : kindAt y (s .args .row) ≡ 4 = sym (c .before .before .kind-at .ensures) ∙ c .match .keys1 in
     let below = element-below y (s .args .row) kind (s .pre .1 .fits) in
     rw (c .before .a-at .ensures) (omega (arith, s .pre .0, below), inner-layable (s .pre .1) (aAt y (s .args .row)) below))
     (λ c κs. search needs)
     (λ c κs.
-    let s = c .before .before .before .before .before .before .before in
-    let y = typeTable (s .args .rows .now) (s .args .members .now) in
+    let s = c .before .before .before .before .before .before .before .before in
+    let y = typeTable (s .args .rows .now) (s .args .members .now) (s .args .entries .now) in
     let kind : kindAt y (s .args .row) ≡ 4 = sym (c .before .before .before .before .kind-at .ensures) ∙ c .before .before .match .keys1 in
     rw (c .before .inner-layout .ensures, c .before .before .before .a-at .ensures)
     (element-size y (s .args .row) kind (s .pre .1 .fits) (s .pre .1 .sound)))
     -- a struct
     (λ c κs.
-    let s = c .before .before .before .before .before in
+    let s = c .before .before .before .before .before .before in
     (omega (arith, s .pre .0), (s .pre .1, sym (c .before .before .kind-at .ensures) ∙ c .match .keys2)))
     (λ c κs. search needs)
     (λ c.
-    let s = c .before .before .before .before .before .before .before .before in
-    let y = typeTable (s .args .rows .now) (s .args .members .now) in
+    let s = c .before .before .before .before .before .before .before .before .before in
+    let y = typeTable (s .args .rows .now) (s .args .members .now) (s .args .entries .now) in
     let kind : kindAt y (s .args .row) ≡ 4 = sym (c .before .before .before .before .before .kind-at .ensures) ∙ c .before .before .before .match .keys1 in
     rw (c .array-layout .ensures, c .before .before .inner-layout .ensures, c .before .b-at .ensures, c .before .before .before .before .a-at .ensures)
     (sym (array-layout y (s .args .row) kind (s .pre .1 .fits))))
     (λ c. search needs)
     -- any other kind
     (λ c.
-    let s = c .before .before .before .before .before .before in
-    let y = typeTable (s .args .rows .now) (s .args .members .now) in
+    let s = c .before .before .before .before .before .before .before in
+    let y = typeTable (s .args .rows .now) (s .args .members .now) (s .args .entries .now) in
     let kind = c .before .before .before .kind-at in
     let a = c .before .before .a-at in
     layout-by-kind y (s .args .row) (kind .result) (a .result) (c .fixed-layout .result) (kind .ensures) (a .ensures)
@@ -171,12 +171,12 @@ pub +inner-layout+row-layout+struct-layout-spec : {M : Type 1} → statement M
     (λ c κs. search needs)
     -- an empty struct
     (λ c.
-    let s = c .before .before .before .before .before in
-    let y = typeTable (s .args .rows .now) (s .args .members .now) in
+    let s = c .before .before .before .before .before .before in
+    let y = typeTable (s .args .rows .now) (s .args .members .now) (s .args .entries .now) in
     sym (empty-struct y (s .args .row) (s .pre .1 .1) (sym (c .before .b-at .ensures) ∙ c .if1 .taken)))
     (λ c.
-    let s = c .before .before .before .before .before in
-    let y = typeTable (s .args .rows .now) (s .args .members .now) in
+    let s = c .before .before .before .before .before .before in
+    let y = typeTable (s .args .rows .now) (s .args .members .now) (s .args .entries .now) in
     let l = s .pre .1 .0 in
     let some : 0 < bAt y (s .args .row) = omega (arith, c .before .b-at .ensures) in
     rw (c .before .before .a-at .ensures, c .before .b-at .ensures)
@@ -185,7 +185,7 @@ pub +inner-layout+row-layout+struct-layout-spec : {M : Type 1} → statement M
     (λ c κs. search needs)
     -- a member: its row is below the struct's
     (λ c κs.
-    let s = c .before .before .before .before .before .before .before .before in
+    let s = c .before .before .before .before .before .before .before .before .before in
     let below = next-below (c .before .before .loop .inv) (omega arith) in
     rw (c .row-of .ensures) (omega (arith, s .pre .0, below), inner-layable (s .pre .1 .0) _ below))
     (λ c κs.

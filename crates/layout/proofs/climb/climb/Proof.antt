@@ -13,10 +13,10 @@ use Rattle.layout.proofs.climb.climb.Statement.{statement}
 use Rattle.layout.proofs.climb.climb.Tie as tie
 
 abbrev Inv-loop : tie.InvT-loop
-Inv-loop rows members sizes₀ alignments₀ count row₀ sizes alignments row = Climbing (typeTable rows members) row sizes alignments
+Inv-loop rows members entries sizes₀ alignments₀ count row₀ sizes alignments row = Climbing (typeTable rows members entries) row sizes alignments
 
 abbrev μ-loop : tie.MeasureT-loop
-μ-loop rows members sizes₀ alignments₀ count row₀ sizes alignments row = count - row
+μ-loop rows members entries sizes₀ alignments₀ count row₀ sizes alignments row = count - row
 
 -- ---- before the rows
 
@@ -28,7 +28,7 @@ lists-refused c =
 
 loop-holds : tie.Need-loop-holds Inv-loop μ-loop
 loop-holds c =
-    let s = c .before .before .before .before in
+    let s = c .before .before .before .before .before in
     climbing.climbing-first _ (sym (c .before .lists-whole .ensures) ∙ not-false _ (c .if1 .left)) (s .pre .0) (s .pre .1)
 
 -- ---- a row
@@ -44,7 +44,7 @@ judge-requires c κs = (c .before .before .before .loop .inv .kept, climbing.few
 
 row-refused : tie.Need-returns-2 Inv-loop μ-loop
 row-refused c =
-    let s = c .before .before .before .before .before .before .before .before .before .before .before .before .before .before in
+    let s = c .before .before .before .before .before .before .before .before .before .before .before .before .before .before .before in
     let i = c .before .before .before .before .before .before .before .before .before .loop in
     let r = c .before .before .before .before .before .judge in
     climbing.refused-promised _ (c .refused-at2 .result) _ (ap verdictOf (c .refused-at2 .ensures))

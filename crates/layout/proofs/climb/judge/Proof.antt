@@ -17,12 +17,12 @@ unfolding rowSound
 no-line c = rw (← c .before .row-fits .ensures, not-true (c .before .row-fits .result) (c .if1 .taken))
 
 fits : (c : tie.Else1)
-    → let a = c .before .before .before .before .args in Fits (typeTable (a .rows .now) (a .members .now)) (a .row)
+    → let a = c .before .before .before .before .before .args in Fits (typeTable (a .rows .now) (a .members .now) (a .entries .now)) (a .row)
 fits c = sym (c .before .row-fits .ensures) ∙ not-false (c .before .row-fits .result) (c .if1 .left)
 
 row-layout-requires : tie.Need-row-layout-requires
 row-layout-requires c κs =
-    let s = c .before .before .before .before in record { below = s .pre .0; sound = s .pre .0 .sound; fits = fits c; few = s .pre .1 }
+    let s = c .before .before .before .before .before in record { below = s .pre .0; sound = s .pre .0 .sound; fits = fits c; few = s .pre .1 }
 
 laid : tie.Need-returns-2
 laid c =

@@ -6,13 +6,13 @@ use Rattle.reader.proofs.pass.primary.Statement.{statement}
 use Rattle.reader.proofs.pass.primary.Tie as tie
 
 claim-requires : tie.Need-claim-requires
-claim-requires c κs = claim-asked (c .before .before .before .before .before .before .before .before .pre) (c .before .number-at .ensures)
+claim-requires c κs = claim-asked (c .before .before .before .before .before .before .before .before .before .pre) (c .before .number-at .ensures)
 
 value-requires : tie.Need-value-requires
 value-requires c κs =
     let claimed = c .before .before .before .before .before .before .before in
     let number = claimed .before .before in
-    root-asked (number .before .before .before .before .before .before .before .pre) (number .number-at .ensures) (claimed .claim .ensures) (c .before .before .before .c .given .1)
+    root-asked (number .before .before .before .before .before .before .before .before .pre) (number .number-at .ensures) (claimed .claim .ensures) (c .before .before .before .c .given .1)
 
 returns : tie.Need-returns
 returns c = search (needs, primary-refused)

@@ -41,6 +41,7 @@ use Rattle.walk_records.proofs.Unions.{member-fits}
 use Rattle.walk.proofs.OutOfLine.{elements-few, vector-record, box-record, table-record, union-record, vector-closed, vector-refused, vector-asks, vector-done, box-absent, box-refused, box-asks, box-done, table-closed, table-refused, table-asks, table-done, union-none, union-bad, union-asks, union-done}
 use Rattle.walk.proofs.Numbers.{numbers-ask, numbers-done}
 use Rattle.walk.proofs.Plans.{planned-ask, planned-done, alone-ask, alone-done}
+use Rattle.walk.proofs.StrictRows.{strict-run-ask, strict-ask, strict-run-done, strict-done}
 use Rattle.walk_leaves.specs.Doing.{message}
 use Rattle.walk_leaves.proofs.Reading.{reading}
 use Rattle.walk.proofs.TableEnvelopes.{EnvelopesLeft, envelopes-start, envelopes-end, content-asks, last-absent, one-absent, one-present, one-refused, one-lengths}
@@ -82,67 +83,68 @@ use Rattle.walk_leaves.proofs.scalars.boolean.Reads as boolean-reads
 use Rattle.walk_leaves.proofs.scalars.handle.Reads as handle-reads
 use Rattle.walk_leaves.proofs.scalars.number.Reads as number-reads
 use Rattle.walk_leaves.proofs.scalars.numbers.Reads as numbers-reads
+use Rattle.walk_leaves.proofs.strict_rows.strict_values.Reads as strict-values-reads
 use Rattle.walk.proofs.cycle.+composite+content+elements+envelopes+out_of_line+value.{statement}
 use Rattle.walk.proofs.cycle.+composite+content+elements+envelopes+out_of_line+value.Tie.{close}
 
-abbrev μ-composite : Measures 7 composite-kinds.ps ℕ
-μ-composite κs a = a .1 .1 .1 .1 .1 .1 .1 .1 .0 * 1048576 + 4 * (a .1 .1 .1 .1 .1 .1 .1 .1 .1 .0) + 1
+abbrev μ-composite : Measures 8 composite-kinds.ps ℕ
+μ-composite κs a = a .1 .1 .1 .1 .1 .1 .1 .1 .1 .0 * 1048576 + 4 * (a .1 .1 .1 .1 .1 .1 .1 .1 .1 .1 .0) + 1
 
-abbrev μ-content : Measures 7 content-kinds.ps ℕ
-μ-content κs a = a .1 .1 .1 .1 .1 .1 .1 .1 .0 * 1048576
+abbrev μ-content : Measures 8 content-kinds.ps ℕ
+μ-content κs a = a .1 .1 .1 .1 .1 .1 .1 .1 .1 .0 * 1048576
 
-abbrev μ-elements : Measures 7 elements-kinds.ps ℕ
-μ-elements κs a = a .1 .1 .1 .1 .1 .1 .1 .1 .0 * 1048576 + 4 * (a .1 .1 .1 .1 .1 .1 .1 .1 .1 .0) + 3 + a .1 .1 .1 .1 .1 .1 .1 .1 .1 .1 .0
+abbrev μ-elements : Measures 8 elements-kinds.ps ℕ
+μ-elements κs a = a .1 .1 .1 .1 .1 .1 .1 .1 .1 .0 * 1048576 + 4 * (a .1 .1 .1 .1 .1 .1 .1 .1 .1 .1 .0) + 3 + a .1 .1 .1 .1 .1 .1 .1 .1 .1 .1 .1 .0
 
-abbrev μ-envelopes : Measures 7 envelopes-kinds.ps ℕ
-μ-envelopes κs a = a .1 .1 .1 .1 .1 .1 .1 .1 .0 * 1048576 + 1 + a .1 .1 .1 .1 .1 .1 .1 .1 .1 .1 .0
+abbrev μ-envelopes : Measures 8 envelopes-kinds.ps ℕ
+μ-envelopes κs a = a .1 .1 .1 .1 .1 .1 .1 .1 .1 .0 * 1048576 + 1 + a .1 .1 .1 .1 .1 .1 .1 .1 .1 .1 .1 .0
 
-abbrev μ-out-of-line : Measures 7 out-of-line-kinds.ps ℕ
-μ-out-of-line κs a = a .1 .1 .1 .1 .1 .1 .1 .1 .0 * 1048576 + 4 * (a .1 .1 .1 .1 .1 .1 .1 .1 .1 .0) + 1
+abbrev μ-out-of-line : Measures 8 out-of-line-kinds.ps ℕ
+μ-out-of-line κs a = a .1 .1 .1 .1 .1 .1 .1 .1 .1 .0 * 1048576 + 4 * (a .1 .1 .1 .1 .1 .1 .1 .1 .1 .1 .0) + 1
 
-abbrev μ-value : Measures 7 value-kinds.ps ℕ
-μ-value κs a = a .1 .1 .1 .1 .1 .1 .1 .1 .0 * 1048576 + 4 * (a .1 .1 .1 .1 .1 .1 .1 .1 .1 .0) + 2
+abbrev μ-value : Measures 8 value-kinds.ps ℕ
+μ-value κs a = a .1 .1 .1 .1 .1 .1 .1 .1 .1 .0 * 1048576 + 4 * (a .1 .1 .1 .1 .1 .1 .1 .1 .1 .1 .0) + 2
 
-abbrev composite-at : ℕ → In 7 composite-kinds.ps
-composite-at t = and 7 composite-kinds.ps (is 7 composite-kinds.ps μ-composite t) composite.Pre
+abbrev composite-at : ℕ → In 8 composite-kinds.ps
+composite-at t = and 8 composite-kinds.ps (is 8 composite-kinds.ps μ-composite t) composite.Pre
 
-abbrev composite-below : ℕ → In 7 composite-kinds.ps
+abbrev composite-below : ℕ → In 8 composite-kinds.ps
 composite-below t =
-    and 7 composite-kinds.ps (falls 7 composite-kinds.ps _<_ μ-composite t) composite.Pre
+    and 8 composite-kinds.ps (falls 8 composite-kinds.ps _<_ μ-composite t) composite.Pre
 
-abbrev content-at : ℕ → In 7 content-kinds.ps
-content-at t = and 7 content-kinds.ps (is 7 content-kinds.ps μ-content t) content.Pre
+abbrev content-at : ℕ → In 8 content-kinds.ps
+content-at t = and 8 content-kinds.ps (is 8 content-kinds.ps μ-content t) content.Pre
 
-abbrev content-below : ℕ → In 7 content-kinds.ps
-content-below t = and 7 content-kinds.ps (falls 7 content-kinds.ps _<_ μ-content t) content.Pre
+abbrev content-below : ℕ → In 8 content-kinds.ps
+content-below t = and 8 content-kinds.ps (falls 8 content-kinds.ps _<_ μ-content t) content.Pre
 
-abbrev elements-at : ℕ → In 7 elements-kinds.ps
-elements-at t = and 7 elements-kinds.ps (is 7 elements-kinds.ps μ-elements t) elements.Pre
+abbrev elements-at : ℕ → In 8 elements-kinds.ps
+elements-at t = and 8 elements-kinds.ps (is 8 elements-kinds.ps μ-elements t) elements.Pre
 
-abbrev elements-below : ℕ → In 7 elements-kinds.ps
+abbrev elements-below : ℕ → In 8 elements-kinds.ps
 elements-below t =
-    and 7 elements-kinds.ps (falls 7 elements-kinds.ps _<_ μ-elements t) elements.Pre
+    and 8 elements-kinds.ps (falls 8 elements-kinds.ps _<_ μ-elements t) elements.Pre
 
-abbrev envelopes-at : ℕ → In 7 envelopes-kinds.ps
-envelopes-at t = and 7 envelopes-kinds.ps (is 7 envelopes-kinds.ps μ-envelopes t) envelopes.Pre
+abbrev envelopes-at : ℕ → In 8 envelopes-kinds.ps
+envelopes-at t = and 8 envelopes-kinds.ps (is 8 envelopes-kinds.ps μ-envelopes t) envelopes.Pre
 
-abbrev envelopes-below : ℕ → In 7 envelopes-kinds.ps
+abbrev envelopes-below : ℕ → In 8 envelopes-kinds.ps
 envelopes-below t =
-    and 7 envelopes-kinds.ps (falls 7 envelopes-kinds.ps _<_ μ-envelopes t) envelopes.Pre
+    and 8 envelopes-kinds.ps (falls 8 envelopes-kinds.ps _<_ μ-envelopes t) envelopes.Pre
 
-abbrev out-of-line-at : ℕ → In 7 out-of-line-kinds.ps
+abbrev out-of-line-at : ℕ → In 8 out-of-line-kinds.ps
 out-of-line-at t =
-    and 7 out-of-line-kinds.ps (is 7 out-of-line-kinds.ps μ-out-of-line t) out-of-line.Pre
+    and 8 out-of-line-kinds.ps (is 8 out-of-line-kinds.ps μ-out-of-line t) out-of-line.Pre
 
-abbrev out-of-line-below : ℕ → In 7 out-of-line-kinds.ps
+abbrev out-of-line-below : ℕ → In 8 out-of-line-kinds.ps
 out-of-line-below t =
-    and 7 out-of-line-kinds.ps (falls 7 out-of-line-kinds.ps _<_ μ-out-of-line t) out-of-line.Pre
+    and 8 out-of-line-kinds.ps (falls 8 out-of-line-kinds.ps _<_ μ-out-of-line t) out-of-line.Pre
 
-abbrev value-at : ℕ → In 7 value-kinds.ps
-value-at t = and 7 value-kinds.ps (is 7 value-kinds.ps μ-value t) value.Pre
+abbrev value-at : ℕ → In 8 value-kinds.ps
+value-at t = and 8 value-kinds.ps (is 8 value-kinds.ps μ-value t) value.Pre
 
-abbrev value-below : ℕ → In 7 value-kinds.ps
-value-below t = and 7 value-kinds.ps (falls 7 value-kinds.ps _<_ μ-value t) value.Pre
+abbrev value-below : ℕ → In 8 value-kinds.ps
+value-below t = and 8 value-kinds.ps (falls 8 value-kinds.ps _<_ μ-value t) value.Pre
 
 -- ---- composite: structs and arrays
 
@@ -150,18 +152,18 @@ abbrev composite-calls : ℕ → composite-lts.Claims
 composite-calls t = (a-at-reads.Asked, a-at-reads.Learnt, row-of-reads.Asked, row-of-reads.Learnt, kind-at-reads.Asked, kind-at-reads.Learnt, plan-of-reads.Asked, plan-of-reads.Learnt, number-at-reads.Asked, number-at-reads.Learnt, planned-reads.Asked, planned-reads.Learnt, b-at-reads.Asked, b-at-reads.Learnt, has-parts-reads.Asked, has-parts-reads.Learnt, value-below t, value.Post, fill-at-reads.Asked, fill-at-reads.Learnt, next-step-reads.Asked, next-step-reads.Learnt)
 
 abbrev composite-Inv-loop : composite-lts.InvT-loop
-composite-Inv-loop rows members sizes alignments bytes held values₀ objects₀ depth row at first part kept₀ around₀ level₀ due₀ place₀ d₀ values objects kept around level due place d =
-    Ready (typeTable rows members) sizes alignments depth row × Walking (typeTable rows members) bytes held depth row at values₀ objects₀ d₀ (record { row = 0; done = 0; at = 0 }) alignments values objects kept around level due place d
+composite-Inv-loop rows members entries sizes alignments bytes held values₀ objects₀ depth row at first part kept₀ around₀ level₀ due₀ place₀ d₀ values objects kept around level due place d =
+    Ready (typeTable rows members entries) sizes alignments depth row × Walking (typeTable rows members entries) bytes held depth row at values₀ objects₀ d₀ (record { row = 0; done = 0; at = 0 }) alignments values objects kept around level due place d
 
 abbrev composite-μ-loop : composite-lts.MeasureT-loop
-composite-μ-loop rows members sizes alignments bytes held values₀ objects₀ depth row at first part kept₀ around₀ level₀ due₀ place₀ d₀ values objects kept around level due place d =
+composite-μ-loop rows members entries sizes alignments bytes held values₀ objects₀ depth row at first part kept₀ around₀ level₀ due₀ place₀ d₀ values objects kept around level due place d =
     fuel rows level due place around
 
 composite-planned-requires : (t : ℕ) → composite-lts.Need-planned-requires (composite-calls t) (composite-at t) composite.Post composite-Inv-loop composite-μ-loop
 composite-planned-requires t c κs =
     let at-if2 = c .before .before .before in
     let at-plan-of = at-if2 .before .before in
-    let start = at-plan-of .before .before .before .before .before .before .before .before .before .before in
+    let start = at-plan-of .before .before .before .before .before .before .before .before .before .before .before in
     alone-ask (start .pre .1 .0) (at-plan-of .plan-of .ensures) (at-if2 .if2 .taken) (c .before .number-at .ensures) (start .pre .1 .2)
 
 composite-returns : (t : ℕ) → composite-lts.Need-returns (composite-calls t) (composite-at t) composite.Post composite-Inv-loop composite-μ-loop
@@ -170,7 +172,7 @@ composite-returns t c =
     let at-number-at = at-planned .before .before in
     let at-if2 = at-number-at .before .before in
     let at-plan-of = at-if2 .before .before in
-    let start = at-plan-of .before .before .before .before .before .before .before .before .before .before in
+    let start = at-plan-of .before .before .before .before .before .before .before .before .before .before .before in
     alone-done (start .pre .1 .0) (at-plan-of .plan-of .ensures) (at-if2 .if2 .taken) (at-number-at .number-at .ensures) _ _ _ _ _ _ _ _ (start .pre .1 .2) (at-planned .planned .ensures)
 
 composite-has-parts-requires : (t : ℕ) → composite-lts.Need-has-parts-requires (composite-calls t) (composite-at t) composite.Post composite-Inv-loop composite-μ-loop
@@ -180,7 +182,7 @@ composite-value-requires : (t : ℕ) → composite-lts.Need-value-requires (comp
 composite-value-requires t c κs =
     let at-if3 = c .before .before in
     let at-number-at = at-if3 .before .before .before .before .before .before in
-    let start = at-number-at .before .before .before .before .before .before .before in
+    let start = at-number-at .before .before .before .before .before .before .before .before in
     let one = one-member (start .pre .1 .0) _ (at-if3 .before .before .before .kind-at2 .ensures) (at-if3 .before .before .b-at .ensures) (at-if3 .if3 .taken) in
     let k = member-asks (start .pre .1 .0) (start .pre .1 .1) one (at-number-at .before .a-at .ensures) (at-number-at .row-of .ensures) (start .pre .1 .2) in
     (omega (arith, start .pre .0, k .2), (k .0, k .1))
@@ -193,7 +195,7 @@ composite-number-at-requires-2 t c κs = search needs
 
 composite-add-stop : (t : ℕ) → composite-lts.Need-add-stop (composite-calls t) (composite-at t) composite.Post composite-Inv-loop composite-μ-loop
 composite-add-stop t c =
-    let start = c .before .before .before .before .before .before .before .before .before .before .before .before .before .before .before .before .before .before .before .before .before .before .before .before .before in
+    let start = c .before .before .before .before .before .before .before .before .before .before .before .before .before .before .before .before .before .before .before .before .before .before .before .before .before .before in
     omega (arith, start .pre .1 .2 .inside, start .pre .1 .2 .short)
 
 composite-number-at-requires-3 : (t : ℕ) → composite-lts.Need-number-at-requires-3 (composite-calls t) (composite-at t) composite.Post composite-Inv-loop composite-μ-loop
@@ -201,14 +203,14 @@ composite-number-at-requires-3 t c κs = search needs
 
 composite-add-fill-at : (t : ℕ) → composite-lts.Need-add-fill-at (composite-calls t) (composite-at t) composite.Post composite-Inv-loop composite-μ-loop
 composite-add-fill-at t c =
-    let start = c .before .before .before .before .before .before .before .before .before .before .before .before .before .before .before .before .before .before .before .before .before .before .before .before .before .before .before in
+    let start = c .before .before .before .before .before .before .before .before .before .before .before .before .before .before .before .before .before .before .before .before .before .before .before .before .before .before .before .before in
     omega (arith, start .pre .1 .2 .inside, start .pre .1 .2 .short)
 
 composite-sub-fill-at : (t : ℕ) → composite-lts.Need-sub-fill-at (composite-calls t) (composite-at t) composite.Post composite-Inv-loop composite-μ-loop
 composite-sub-fill-at t c =
     let at-if3 = c .before .before .before .before .before .before .before .before .before .before .before .before .before .before in
     let at-number-at = at-if3 .before .before .before .before .before .before in
-    let start = at-number-at .before .before .before .before .before .before .before in
+    let start = at-number-at .before .before .before .before .before .before .before .before in
     let one = one-member (start .pre .1 .0) _ (at-if3 .before .before .before .kind-at2 .ensures) (at-if3 .before .before .b-at .ensures) (at-if3 .if3 .taken) in
     fill-asks (start .pre .1 .0) (start .pre .1 .1) one (at-number-at .before .a-at .ensures) (at-number-at .row-of .ensures) (start .pre .1 .2) (c .before .before .number-at2 .ensures) (c .number-at3 .ensures) .0
 
@@ -216,7 +218,7 @@ composite-fill-at-requires : (t : ℕ) → composite-lts.Need-fill-at-requires (
 composite-fill-at-requires t c κs =
     let at-if3 = c .before .before .before .before .before .before .before .before .before .before .before .before .before .before in
     let at-number-at = at-if3 .before .before .before .before .before .before in
-    let start = at-number-at .before .before .before .before .before .before .before in
+    let start = at-number-at .before .before .before .before .before .before .before .before in
     let one = one-member (start .pre .1 .0) _ (at-if3 .before .before .before .kind-at2 .ensures) (at-if3 .before .before .b-at .ensures) (at-if3 .if3 .taken) in
     omega (arith, fill-asks (start .pre .1 .0) (start .pre .1 .1) one (at-number-at .before .a-at .ensures) (at-number-at .row-of .ensures) (start .pre .1 .2) (c .before .before .number-at2 .ensures) (c .number-at3 .ensures))
 
@@ -230,7 +232,7 @@ composite-returns-2 : (t : ℕ) → composite-lts.Need-returns-2 (composite-call
 composite-returns-2 t c =
     let at-if3 = c .before .before .before .before .before .before .before .before .before .before .before .before .before .before .before in
     let at-number-at = at-if3 .before .before .before .before .before .before in
-    let start = at-number-at .before .before .before .before .before .before .before in
+    let start = at-number-at .before .before .before .before .before .before .before .before in
     let one = one-member (start .pre .1 .0) _ (at-if3 .before .before .before .kind-at2 .ensures) (at-if3 .before .before .b-at .ensures) (at-if3 .if3 .taken) in
     member-filled (start .pre .1 .0) (start .pre .1 .1) one (at-number-at .before .a-at .ensures) (at-number-at .row-of .ensures) _ _ _ _ _ _ _ _ (start .pre .1 .2) (c .before .before .before .before .before .before .before .before .before .before .before .before .value .ensures) (c .before .before .before .before .before .before .d .given .1) (c .before .before .before .number-at2 .ensures) (c .before .number-at3 .ensures) _ (c .fill-at .ensures)
 
@@ -247,12 +249,12 @@ composite-returns-3 : (t : ℕ) → composite-lts.Need-returns-3 (composite-call
 composite-returns-3 t c =
     let at-if3 = c .before .before .before .before .before .before .before .before .before .before in
     let at-number-at = at-if3 .before .before .before .before .before .before in
-    let start = at-number-at .before .before .before .before .before .before .before in
+    let start = at-number-at .before .before .before .before .before .before .before .before in
     let one = one-member (start .pre .1 .0) _ (at-if3 .before .before .before .kind-at2 .ensures) (at-if3 .before .before .b-at .ensures) (at-if3 .if3 .taken) in
     member-refused (start .pre .1 .0) (start .pre .1 .1) one (at-number-at .before .a-at .ensures) (at-number-at .row-of .ensures) _ _ _ _ _ _ _ _ (start .pre .1 .2) (c .before .before .before .before .before .before .before .value .ensures) (c .before .f .given .1)
 
 composite-loop-holds : (t : ℕ) → composite-lts.Need-loop-holds (composite-calls t) (composite-at t) composite.Post composite-Inv-loop composite-μ-loop
-composite-loop-holds t c = (c .before .before .before .before .before .before .before .before .before .before .before .before .before .pre .1 .0, walking-start (c .before .before .before .before .before .before .before .before .before .before .before .before .before .pre .1 .0) _ _ refl (c .before .before .before .before .before .before .before .before .before .before .before .before .before .pre .1 .1) (c .before .before .before .before .before .before .before .before .before .before .before .before .before .pre .1 .2))
+composite-loop-holds t c = (c .before .before .before .before .before .before .before .before .before .before .before .before .before .before .pre .1 .0, walking-start (c .before .before .before .before .before .before .before .before .before .before .before .before .before .before .pre .1 .0) _ _ refl (c .before .before .before .before .before .before .before .before .before .before .before .before .before .before .pre .1 .1) (c .before .before .before .before .before .before .before .before .before .before .before .before .before .before .pre .1 .2))
 
 composite-sub-fill-at-2 : (t : ℕ) → composite-lts.Need-sub-fill-at-2 (composite-calls t) (composite-at t) composite.Post composite-Inv-loop composite-μ-loop
 composite-sub-fill-at-2 t c =
@@ -308,7 +310,7 @@ composite-loop-again-2 t c =
 composite-value-requires-2 : (t : ℕ) → composite-lts.Need-value-requires-2 (composite-calls t) (composite-at t) composite.Post composite-Inv-loop composite-μ-loop
 composite-value-requires-2 t c κs =
     let loop = c .before .before .before .before .before .before .loop in
-    let k = turn-call (loop .inv .0) (loop .inv .1) (c .before .before .before .before .before .next-step .ensures) (c .before .before .before .part2 .given .1) in (omega (arith, c .before .before .before .before .before .before .before .before .before .before .before .before .before .before .before .before .before .before .before .before .pre .0, k .2), (k .0, k .1))
+    let k = turn-call (loop .inv .0) (loop .inv .1) (c .before .before .before .before .before .next-step .ensures) (c .before .before .before .part2 .given .1) in (omega (arith, c .before .before .before .before .before .before .before .before .before .before .before .before .before .before .before .before .before .before .before .before .before .pre .0, k .2), (k .0, k .1))
 
 composite-enum-known-e-2 : (t : ℕ) → composite-lts.Need-enum-known-e-2 (composite-calls t) (composite-at t) composite.Post composite-Inv-loop composite-μ-loop
 composite-enum-known-e-2 t c = search needs
@@ -375,14 +377,14 @@ content-calls t = (unknown-content-reads.Asked, unknown-content-reads.Learnt, nu
 
 content-unknown-content-requires : (t : ℕ) → content-lts.Need-unknown-content-requires (content-calls t) (content-at t) content.Post
 content-unknown-content-requires t c κs =
-    let start = c .before .before .before .before .before .before .before .before .before in
+    let start = c .before .before .before .before .before .before .before .before .before .before in
     (start .pre .1 .2, omega (arith, row-few (start .pre .1 .0)))
 
 content-known-opened-requires : (t : ℕ) → content-lts.Need-known-opened-requires (content-calls t) (content-at t) content.Post
 content-known-opened-requires t c κs =
     let at-number-at = c .before in
     let at-what = at-number-at .before .before .before in
-    let start = at-what .before .before .before .before .before .before .before in
+    let start = at-what .before .before .before .before .before .before .before .before in
     (ask-bytes (start .pre .1 .2), omega (arith, payload-few _ (start .pre .1 .0) (start .pre .1 .1) (at-what .what .given .1)), payload-small _ (start .pre .1 .0) (start .pre .1 .1) (at-what .what .given .1) (at-number-at .number-at .ensures))
 
 content-sub-value : (t : ℕ) → content-lts.Need-sub-value (content-calls t) (content-at t) content.Post
@@ -394,7 +396,7 @@ content-value-requires t c κs =
     let at-known-opened = at-x .before .before .before .before in
     let at-number-at = at-known-opened .before .before in
     let at-what = at-number-at .before .before .before in
-    let start = at-what .before .before .before .before .before .before .before in
+    let start = at-what .before .before .before .before .before .before .before .before in
     let l = level-left _ _ (at-known-opened .known-opened .ensures .1) (at-x .x .given .1) in
     (omega (arith, start .pre .0, l, payload-few _ (start .pre .1 .0) (start .pre .1 .1) (at-what .what .given .1)), (payload-ready _ (start .pre .1 .0) (start .pre .1 .1) (at-what .what .given .1), payload-asks _ (start .args .bytes .now) _ _ _ _ (start .args .values .now) _ _ _ _ (start .pre .1 .0) (start .pre .1 .1) (at-what .what .given .1) (at-number-at .number-at .ensures) (start .pre .1 .2) _ (at-known-opened .known-opened .ensures .0) (at-x .x .given .1)))
 
@@ -406,7 +408,7 @@ content-sealed-requires t c κs =
     let at-known-opened = at-x .before .before .before .before in
     let at-number-at = at-known-opened .before .before in
     let at-what = at-number-at .before .before .before in
-    let start = at-what .before .before .before .before .before .before .before in
+    let start = at-what .before .before .before .before .before .before .before .before in
     let a = start .pre .1 .2 in
     let p = payload-rises _ _ _ _ _ _ _ _ _ _ _ (start .pre .1 .0) (start .pre .1 .1) (at-what .what .given .1) (at-number-at .number-at .ensures) (start .pre .1 .2) _ (at-known-opened .known-opened .ensures .0) (at-x .x .given .1) (at-value .value .ensures) (at-d2 .d2 .given .1) in
     (omega (arith, a .inside, a .short), payload-small _ (start .pre .1 .0) (start .pre .1 .1) (at-what .what .given .1) (at-number-at .number-at .ensures), p .0, p .1)
@@ -421,24 +423,24 @@ content-returns-3 : (t : ℕ) → content-lts.Need-returns-3 (content-calls t) (
 content-returns-3 t c = search (needs, content-not-open)
 
 content-returns-4 : (t : ℕ) → content-lts.Need-returns-4 (content-calls t) (content-at t) content.Post
-content-returns-4 t c = search (needs, content-sealed, c .before .before .before .before .before .before .before .before .before .before .before .before .before .before .before .before .before .before .before .before .before .before .before .before .before .before .before .before .pre, c .before .before .before .before .before .before .before .before .before .before .before .before .before .before .before .before .before .before .before .before .before .what .given .1, c .before .before .before .before .before .before .before .before .before .before .before .before .before .before .before .before .before .before .number-at .ensures)
+content-returns-4 t c = search (needs, content-sealed, c .before .before .before .before .before .before .before .before .before .before .before .before .before .before .before .before .before .before .before .before .before .before .before .before .before .before .before .before .before .pre, c .before .before .before .before .before .before .before .before .before .before .before .before .before .before .before .before .before .before .before .before .before .what .given .1, c .before .before .before .before .before .before .before .before .before .before .before .before .before .before .before .before .before .before .number-at .ensures)
 
 content-returns-5 : (t : ℕ) → content-lts.Need-returns-5 (content-calls t) (content-at t) content.Post
-content-returns-5 t c = search (needs, content-refused, c .before .before .before .before .before .before .before .before .before .before .before .before .before .before .before .before .before .before .before .before .before .before .before .before .before .before .before .pre, c .before .before .before .before .before .before .before .before .before .before .before .before .before .before .before .before .before .before .before .before .what .given .1, c .before .before .before .before .before .before .before .before .before .before .before .before .before .before .before .before .before .number-at .ensures)
+content-returns-5 t c = search (needs, content-refused, c .before .before .before .before .before .before .before .before .before .before .before .before .before .before .before .before .before .before .before .before .before .before .before .before .before .before .before .before .pre, c .before .before .before .before .before .before .before .before .before .before .before .before .before .before .before .before .before .before .before .before .what .given .1, c .before .before .before .before .before .before .before .before .before .before .before .before .before .before .before .before .before .number-at .ensures)
 
 -- ---- elements: a vector's elements
 
 abbrev elements-calls : ℕ → elements-lts.Claims
-elements-calls t = (kind-at-reads.Asked, kind-at-reads.Learnt, a-at-reads.Asked, a-at-reads.Learnt, numbers-reads.Asked, numbers-reads.Learnt, number-at-reads.Asked, number-at-reads.Learnt, plan-of-reads.Asked, plan-of-reads.Learnt, planned-reads.Asked, planned-reads.Learnt, value-below t, value.Post)
+elements-calls t = (kind-at-reads.Asked, kind-at-reads.Learnt, a-at-reads.Asked, a-at-reads.Learnt, numbers-reads.Asked, numbers-reads.Learnt, strict-values-reads.Asked, strict-values-reads.Learnt, number-at-reads.Asked, number-at-reads.Learnt, plan-of-reads.Asked, plan-of-reads.Learnt, planned-reads.Asked, planned-reads.Learnt, value-below t, value.Post)
 
 abbrev elements-Inv-loop : elements-lts.InvT-loop
-elements-Inv-loop rows members sizes alignments bytes held values₀ objects₀ depth row count at kind size d₀ place₀ left₀ values objects d place left =
-    RunLeft (reading (message (typeTable rows members) bytes held)) (sizeOf (typeTable rows members) row) (λ k. walkRow (typeTable rows members) bytes held depth row) (count * sizeOf (typeTable rows members) row) at
-    (D.elements (sizeOf (typeTable rows members) row) (λ k. walkRow (typeTable rows members) bytes held depth row) 0 count) (values₀, objects₀) d₀ (values, objects) d 0 left place
+elements-Inv-loop rows members entries sizes alignments bytes held values₀ objects₀ depth row count at kind size d₀ place₀ left₀ values objects d place left =
+    RunLeft (reading (message (typeTable rows members entries) bytes held)) (sizeOf (typeTable rows members entries) row) (λ k. walkRow (typeTable rows members entries) bytes held depth row) (count * sizeOf (typeTable rows members entries) row) at
+    (D.elements (sizeOf (typeTable rows members entries) row) (λ k. walkRow (typeTable rows members entries) bytes held depth row) 0 count) (values₀, objects₀) d₀ (values, objects) d 0 left place
     × (length values ≡ length values₀) × (length objects ≡ length objects₀)
 
 abbrev elements-μ-loop : elements-lts.MeasureT-loop
-elements-μ-loop rows members sizes alignments bytes held values₀ objects₀ depth row count at kind size d₀ place₀ left₀ values objects d place left =
+elements-μ-loop rows members entries sizes alignments bytes held values₀ objects₀ depth row count at kind size d₀ place₀ left₀ values objects d place left =
     left
 
 elements-numbers-requires : (t : ℕ) → elements-lts.Need-numbers-requires (elements-calls t) (elements-at t) elements.Post elements-Inv-loop elements-μ-loop
@@ -446,34 +448,49 @@ elements-numbers-requires t c κs =
     let at-number-at2 = c .before in
     let at-if1 = at-number-at2 .before in
     let at-number-at = at-if1 .before in
-    let start = at-number-at .before .before .before .before .before .before in
+    let start = at-number-at .before .before .before .before .before .before .before in
     numbers-ask (start .pre .1 .0) (at-number-at .kind-at .ensures) (at-if1 .if1 .taken) (at-number-at2 .a-at .ensures) _ (start .pre .1 .1)
 
 elements-returns : (t : ℕ) → elements-lts.Need-returns (elements-calls t) (elements-at t) elements.Post elements-Inv-loop elements-μ-loop
 elements-returns t c = search (needs, numbers-done)
 
-elements-planned-requires : (t : ℕ) → elements-lts.Need-planned-requires (elements-calls t) (elements-at t) elements.Post elements-Inv-loop elements-μ-loop
-elements-planned-requires t c κs = planned-ask (c .before .before .before .before .before .before .before .before .before .before .before .before .before .pre .1 .0) (c .before .before .before .plan-of .ensures) (c .before .if2 .taken) (c .before .before .before .before .number-at .ensures) _ (c .before .before .before .before .before .before .before .before .before .before .before .before .before .pre .1 .1)
+elements-strict-values-requires : (t : ℕ) → elements-lts.Need-strict-values-requires (elements-calls t) (elements-at t) elements.Post elements-Inv-loop elements-μ-loop
+elements-strict-values-requires t c κs =
+    let at-if2 = c .before in
+    let at-kind-at = at-if2 .before .before in
+    let start = at-kind-at .before .before .before .before .before .before .before in
+    strict-run-ask (start .pre .1 .0) (at-kind-at .kind-at .ensures) (at-if2 .if2 .taken) _ (start .pre .1 .1)
 
 elements-returns-2 : (t : ℕ) → elements-lts.Need-returns-2 (elements-calls t) (elements-at t) elements.Post elements-Inv-loop elements-μ-loop
-elements-returns-2 t c = planned-done (c .before .before .before .before .before .before .before .before .before .before .before .before .before .before .before .before .pre .1 .0) (c .before .before .before .before .before .before .plan-of .ensures) (c .before .before .before .before .if2 .taken) (c .before .before .before .before .before .before .before .number-at .ensures) _ _ _ _ _ _ _ _ _ (c .before .before .before .before .before .before .before .before .before .before .before .before .before .before .before .before .pre .1 .1) (c .before .before .planned .ensures)
+elements-returns-2 t c =
+    let at-strict = c .before .before in
+    let at-if2 = at-strict .before .before in
+    let at-kind-at = at-if2 .before .before in
+    let start = at-kind-at .before .before .before .before .before .before .before in
+    strict-run-done (start .pre .1 .0) (at-kind-at .kind-at .ensures) (at-if2 .if2 .taken) _ _ _ _ _ _ _ _ _ (start .pre .1 .1) (at-strict .strict-values .ensures)
 
-elements-loop-holds : (t : ℕ) → elements-lts.Need-loop-holds (elements-calls t) (elements-at t) elements.Post elements-Inv-loop elements-μ-loop
-elements-loop-holds t c = (run-start 0 _ _ refl (c .before .before .before .before .before .before .before .before .before .before .before .before .pre .1 .1), search needs, search needs)
-
-elements-value-requires : (t : ℕ) → elements-lts.Need-value-requires (elements-calls t) (elements-at t) elements.Post elements-Inv-loop elements-μ-loop
-elements-value-requires t c κs = (omega (arith, c .before .before .before .before .before .before .before .before .before .before .before .before .before .before .before .before .pre .0), (search needs, run-asks (c .before .before .before .loop .inv .0) (c .before .before .loop-test .taken)))
+elements-planned-requires : (t : ℕ) → elements-lts.Need-planned-requires (elements-calls t) (elements-at t) elements.Post elements-Inv-loop elements-μ-loop
+elements-planned-requires t c κs = planned-ask (c .before .before .before .before .before .before .before .before .before .before .before .before .before .before .before .pre .1 .0) (c .before .before .before .plan-of .ensures) (c .before .if3 .taken) (c .before .before .before .before .number-at .ensures) _ (c .before .before .before .before .before .before .before .before .before .before .before .before .before .before .before .pre .1 .1)
 
 elements-returns-3 : (t : ℕ) → elements-lts.Need-returns-3 (elements-calls t) (elements-at t) elements.Post elements-Inv-loop elements-μ-loop
-elements-returns-3 t c = run-stopped (c .before .before .before .before .before .before .before .before .before .before .before .loop .inv .0) (c .before .before .before .before .before .before .before .before .before .before .loop-test .taken) (c .before .before .before .before .before .before .before .value .ensures) (c .before .f .given .1)
+elements-returns-3 t c = planned-done (c .before .before .before .before .before .before .before .before .before .before .before .before .before .before .before .before .before .before .pre .1 .0) (c .before .before .before .before .before .before .plan-of .ensures) (c .before .before .before .before .if3 .taken) (c .before .before .before .before .before .before .before .number-at .ensures) _ _ _ _ _ _ _ _ _ (c .before .before .before .before .before .before .before .before .before .before .before .before .before .before .before .before .before .before .pre .1 .1) (c .before .before .planned .ensures)
+
+elements-loop-holds : (t : ℕ) → elements-lts.Need-loop-holds (elements-calls t) (elements-at t) elements.Post elements-Inv-loop elements-μ-loop
+elements-loop-holds t c = (run-start 0 _ _ refl (c .before .before .before .before .before .before .before .before .before .before .before .before .before .before .pre .1 .1), search needs, search needs)
+
+elements-value-requires : (t : ℕ) → elements-lts.Need-value-requires (elements-calls t) (elements-at t) elements.Post elements-Inv-loop elements-μ-loop
+elements-value-requires t c κs = (omega (arith, c .before .before .before .before .before .before .before .before .before .before .before .before .before .before .before .before .before .before .pre .0), (search needs, run-asks (c .before .before .before .loop .inv .0) (c .before .before .loop-test .taken)))
+
+elements-returns-4 : (t : ℕ) → elements-lts.Need-returns-4 (elements-calls t) (elements-at t) elements.Post elements-Inv-loop elements-μ-loop
+elements-returns-4 t c = run-stopped (c .before .before .before .before .before .before .before .before .before .before .before .loop .inv .0) (c .before .before .before .before .before .before .before .before .before .before .loop-test .taken) (c .before .before .before .before .before .before .before .value .ensures) (c .before .f .given .1)
 
 elements-loop-again : (t : ℕ) → elements-lts.Need-loop-again (elements-calls t) (elements-at t) elements.Post elements-Inv-loop elements-μ-loop
 elements-loop-again t c =
-    let r = c .before .before .before .before .before .before .before .before .before .before .before .before .before .before .before .before .before .before .before .before .before .before .before .before .pre .1 .0 in
+    let r = c .before .before .before .before .before .before .before .before .before .before .before .before .before .before .before .before .before .before .before .before .before .before .before .before .before .before .pre .1 .0 in
     (run-next (c .before .before .before .before .before .before .before .before .before .before .before .loop .inv .0) (c .before .before .before .before .before .before .before .before .before .before .loop-test .taken) (c .before .before .before .before .before .before .before .value .ensures) (row-size r _ (r .in-use) (c .before .before .before .before .before .before .before .before .before .before .before .before .before .before .before .number-at .ensures)) (c .before .e .given .1), search needs, search needs)
 
-elements-returns-4 : (t : ℕ) → elements-lts.Need-returns-4 (elements-calls t) (elements-at t) elements.Post elements-Inv-loop elements-μ-loop
-elements-returns-4 t c = run-end (c .before .loop .inv .0) (c .loop-test .left)
+elements-returns-5 : (t : ℕ) → elements-lts.Need-returns-5 (elements-calls t) (elements-at t) elements.Post elements-Inv-loop elements-μ-loop
+elements-returns-5 t c = run-end (c .before .loop .inv .0) (c .loop-test .left)
 
 -- ---- envelopes: a table's envelopes
 
@@ -481,12 +498,12 @@ abbrev envelopes-calls : ℕ → envelopes-lts.Claims
 envelopes-calls t = (a-at-reads.Asked, a-at-reads.Learnt, b-at-reads.Asked, b-at-reads.Learnt, load64-reads.Asked, load64-reads.Learnt, refused-reads.Asked, refused-reads.Learnt, gave-reads.Asked, gave-reads.Learnt, ordinal-of-reads.Asked, ordinal-of-reads.Learnt, content-below t, content.Post)
 
 abbrev envelopes-Inv-loop : envelopes-lts.InvT-loop
-envelopes-Inv-loop rows members sizes alignments bytes held values₀ objects₀ depth row count at first known d₀ i₀ values objects d i =
-    EnvelopesLeft (typeTable rows members) bytes held depth row count at values₀ values objects₀ objects d₀ d i × (i ≤ count)
+envelopes-Inv-loop rows members entries sizes alignments bytes held values₀ objects₀ depth row count at first known d₀ i₀ values objects d i =
+    EnvelopesLeft (typeTable rows members entries) bytes held depth row count at values₀ values objects₀ objects d₀ d i × (i ≤ count)
     × (length values ≡ length values₀) × (length objects ≡ length objects₀)
 
 abbrev envelopes-μ-loop : envelopes-lts.MeasureT-loop
-envelopes-μ-loop rows members sizes alignments bytes held values₀ objects₀ depth row count at first known d₀ i₀ values objects d i =
+envelopes-μ-loop rows members entries sizes alignments bytes held values₀ objects₀ depth row count at first known d₀ i₀ values objects d i =
     count - i
 
 envelopes-loop-holds : (t : ℕ) → envelopes-lts.Need-loop-holds (envelopes-calls t) (envelopes-at t) envelopes.Post envelopes-Inv-loop envelopes-μ-loop
@@ -506,7 +523,7 @@ envelopes-content-requires t c κs =
     let at-loop = at-loop-test .before in
     let at-number-at2 = at-loop .before in
     let at-number-at = at-number-at2 .before in
-    let start = at-number-at .before .before .before .before .before .before in
+    let start = at-number-at .before .before .before .before .before .before .before in
     let m = table-members (start .pre .1 .0) refl (at-number-at .a-at .ensures) (at-number-at2 .b-at .ensures) (start .pre .1 .1) in
     (omega (arith, start .pre .0), (start .pre .1 .0, ordinal-fits m _ (at-ordinal-of .ordinal-of .result) (ordinal-content m _ (at-ordinal-of .ordinal-of .result) (at-ordinal-of .ordinal-of .ensures)), content-asks _ _ _ _ _ _ _ _ _ _ (at-loop .loop .inv .0) (at-loop-test .loop-test .taken) (at-gave2 .gave2 .ensures .1)))
 
@@ -522,7 +539,7 @@ envelopes-loop-again-2 t c =
     let at-loop = at-loop-test .before in
     let at-number-at2 = at-loop .before in
     let at-number-at = at-number-at2 .before in
-    let start = at-number-at .before .before .before .before .before .before in
+    let start = at-number-at .before .before .before .before .before .before .before in
     let m = table-members (start .pre .1 .0) refl (at-number-at .a-at .ensures) (at-number-at2 .b-at .ensures) (start .pre .1 .1) in
     let lengths = one-lengths _ _ _ _ _ _ _ _ _ _ (at-loop .loop .inv .0) (at-loop-test .loop-test .taken) (at-load64 .load64 .ensures) (at-ordinal-of .ordinal-of .result) (at-if1 .if1 .left) (at-number-at .a-at .ensures) (at-number-at2 .b-at .ensures) m (at-ordinal-of .ordinal-of .ensures) (at-gave2 .gave2 .ensures) (at-content .content .ensures) in
     (one-present _ _ _ _ _ _ _ _ _ _ (at-loop .loop .inv .0) (at-loop-test .loop-test .taken) (at-load64 .load64 .ensures) (at-ordinal-of .ordinal-of .result) (at-if1 .if1 .left) (at-number-at .a-at .ensures) (at-number-at2 .b-at .ensures) m (at-ordinal-of .ordinal-of .ensures) (at-gave2 .gave2 .ensures) (at-content .content .ensures) (at-f .f .given .1), omega (arith, at-loop-test .loop-test .taken), lengths .0 ∙ at-loop .loop .inv .2, lengths .1 ∙ at-loop .loop .inv .3)
@@ -539,7 +556,7 @@ envelopes-returns-2 t c =
     let at-loop = at-loop-test .before in
     let at-number-at2 = at-loop .before in
     let at-number-at = at-number-at2 .before in
-    let start = at-number-at .before .before .before .before .before .before in
+    let start = at-number-at .before .before .before .before .before .before .before in
     let m = table-members (start .pre .1 .0) refl (at-number-at .a-at .ensures) (at-number-at2 .b-at .ensures) (start .pre .1 .1) in
     one-refused _ _ _ _ _ _ _ _ _ _ (at-loop .loop .inv .0) (at-loop-test .loop-test .taken) (at-load64 .load64 .ensures) (at-ordinal-of .ordinal-of .result) (at-if1 .if1 .left) (at-number-at .a-at .ensures) (at-number-at2 .b-at .ensures) m (at-ordinal-of .ordinal-of .ensures) (at-gave2 .gave2 .ensures) (at-content .content .ensures) (at-f2 .f2 .given .1)
 
@@ -557,7 +574,7 @@ out-of-line-vector-opened-requires t c κs =
     let at-if1 = at-number-at5 .before .before in
     let at-number-at2 = at-if1 .before .before .before in
     let at-number-at = at-number-at2 .before in
-    let start = at-number-at .before .before .before .before .before .before in
+    let start = at-number-at .before .before .before .before .before .before .before in
     let r = start .pre .1 .0 in
     let h = vector-in-use r (at-number-at .kind-at .ensures) (at-number-at2 .a-at .ensures) (at-if1 .if1 .taken) in
     (ask-bytes (vector-record _ _ (at-number-at .kind-at .ensures) (start .pre .1 .2) (at-if1 .if1 .taken)), omega (arith, row-few r), size-small r _ h (at-number-at5 .number-at .ensures))
@@ -575,18 +592,18 @@ out-of-line-elements-requires t c κs =
     let at-number-at3 = at-number-at4 .before in
     let at-number-at2 = at-number-at3 .before in
     let at-number-at = at-number-at2 .before in
-    let start = at-number-at .before .before .before .before .before .before in
+    let start = at-number-at .before .before .before .before .before .before .before in
     let r = start .pre .1 .0 in
     let h = vector-in-use r (at-number-at .kind-at .ensures) (at-number-at2 .a-at .ensures) (at-if1 .if1 .taken) in
     let l = level-left _ _ (at-vector-opened .vector-opened .ensures .1) (at-x .x .given .1) in
-    let asks = vector-asks (typeTable (start .args .rows .now) (start .args .members .now)) (start .args .bytes .now) _ _ _ _ _ _ _ _ _ _ (at-number-at .kind-at .ensures) (start .pre .1 .2) (at-if1 .if1 .taken) (at-number-at2 .a-at .ensures) (at-number-at3 .b-at .ensures) (at-number-at4 .c-at .ensures) (start .pre .1 .0) (at-number-at5 .number-at .ensures) (at-vector-opened .vector-opened .ensures .0) (at-x .x .given .1) in
+    let asks = vector-asks (typeTable (start .args .rows .now) (start .args .members .now) (start .args .entries .now)) (start .args .bytes .now) _ _ _ _ _ _ _ _ _ _ (at-number-at .kind-at .ensures) (start .pre .1 .2) (at-if1 .if1 .taken) (at-number-at2 .a-at .ensures) (at-number-at3 .b-at .ensures) (at-number-at4 .c-at .ensures) (start .pre .1 .0) (at-number-at5 .number-at .ensures) (at-vector-opened .vector-opened .ensures .0) (at-x .x .given .1) in
     (omega (arith, start .pre .0, row-in-use r _ h, elements-few r _ h _ asks, l), (ready-at r _ _ (omega arith) h, asks))
 
 out-of-line-returns : (t : ℕ) → out-of-line-lts.Need-returns (out-of-line-calls t) (out-of-line-at t) out-of-line.Post
-out-of-line-returns t c = search (needs, vector-closed, c .before .before .before .before .before .before .before .before .before .before .before .before .before .before .before .before .before .before .before .before .before .before .pre .1 .0, c .before .before .before .before .before .before .before .before .before .before .before .before .before .before .before .before .before .before .before .before .before .before .pre .1 .2)
+out-of-line-returns t c = search (needs, vector-closed, c .before .before .before .before .before .before .before .before .before .before .before .before .before .before .before .before .before .before .before .before .before .before .before .pre .1 .0, c .before .before .before .before .before .before .before .before .before .before .before .before .before .before .before .before .before .before .before .before .before .before .before .pre .1 .2)
 
 out-of-line-returns-2 : (t : ℕ) → out-of-line-lts.Need-returns-2 (out-of-line-calls t) (out-of-line-at t) out-of-line.Post
-out-of-line-returns-2 t c = search (needs, vector-refused, c .before .before .before .before .before .before .before .before .before .before .before .before .before .before .before .before .before .before .before .before .before .before .pre .1 .0, c .before .before .before .before .before .before .before .before .before .before .before .before .before .before .before .before .before .before .before .before .before .before .pre .1 .2)
+out-of-line-returns-2 t c = search (needs, vector-refused, c .before .before .before .before .before .before .before .before .before .before .before .before .before .before .before .before .before .before .before .before .before .before .before .pre .1 .0, c .before .before .before .before .before .before .before .before .before .before .before .before .before .before .before .before .before .before .before .before .before .before .before .pre .1 .2)
 
 out-of-line-returns-3 : (t : ℕ) → out-of-line-lts.Need-returns-3 (out-of-line-calls t) (out-of-line-at t) out-of-line.Post
 out-of-line-returns-3 t c =
@@ -599,7 +616,7 @@ out-of-line-returns-3 t c =
     let at-number-at3 = at-number-at4 .before in
     let at-number-at2 = at-number-at3 .before in
     let at-number-at = at-number-at2 .before in
-    let start = at-number-at .before .before .before .before .before .before in
+    let start = at-number-at .before .before .before .before .before .before .before in
     rw (c .passed-on .ensures) (vector-done _ _ _ _ _ _ _ _ _ _ _ _ (at-number-at .kind-at .ensures) (start .pre .1 .2) (at-if1 .if1 .taken) (at-number-at2 .a-at .ensures) (at-number-at3 .b-at .ensures) (at-number-at4 .c-at .ensures) (start .pre .1 .0) (at-number-at5 .number-at .ensures) (at-vector-opened .vector-opened .ensures .0) (at-x .x .given .1) (at-elements .elements .ensures))
 
 out-of-line-box-opened-requires : (t : ℕ) → out-of-line-lts.Need-box-opened-requires (out-of-line-calls t) (out-of-line-at t) out-of-line.Post
@@ -608,7 +625,7 @@ out-of-line-box-opened-requires t c κs =
     let at-if2 = at-number-at6 .before .before in
     let at-number-at2 = at-if2 .before .before .before .before in
     let at-number-at = at-number-at2 .before in
-    let start = at-number-at .before .before .before .before .before .before in
+    let start = at-number-at .before .before .before .before .before .before .before in
     let r = start .pre .1 .0 in
     let h = box-in-use r (at-number-at .kind-at .ensures) (at-number-at2 .a-at .ensures) (at-if2 .if2 .taken) in
     (ask-bytes (box-record _ _ (at-number-at .kind-at .ensures) (start .pre .1 .2) (at-if2 .if2 .taken)), omega (arith, row-in-use r _ h), size-small r _ h (at-number-at6 .number-at2 .ensures))
@@ -624,17 +641,17 @@ out-of-line-value-requires t c κs =
     let at-if2 = at-number-at6 .before .before in
     let at-number-at2 = at-if2 .before .before .before .before in
     let at-number-at = at-number-at2 .before in
-    let start = at-number-at .before .before .before .before .before .before in
+    let start = at-number-at .before .before .before .before .before .before .before in
     let r = start .pre .1 .0 in
     let h = box-in-use r (at-number-at .kind-at .ensures) (at-number-at2 .a-at .ensures) (at-if2 .if2 .taken) in
     let l = level-left _ _ (at-box-opened .box-opened .ensures .1) (at-x2 .x2 .given .1) in
-    (omega (arith, start .pre .0, row-in-use r _ h, l), (ready-at r _ _ (omega arith) h, box-asks (typeTable (start .args .rows .now) (start .args .members .now)) (start .args .bytes .now) _ _ _ _ _ _ _ _ _ _ (at-number-at .kind-at .ensures) (start .pre .1 .2) (at-if2 .if2 .taken) (at-number-at2 .a-at .ensures) (start .pre .1 .0) (at-number-at6 .number-at2 .ensures) (at-box-opened .box-opened .ensures .0) (at-x2 .x2 .given .1)))
+    (omega (arith, start .pre .0, row-in-use r _ h, l), (ready-at r _ _ (omega arith) h, box-asks (typeTable (start .args .rows .now) (start .args .members .now) (start .args .entries .now)) (start .args .bytes .now) _ _ _ _ _ _ _ _ _ _ (at-number-at .kind-at .ensures) (start .pre .1 .2) (at-if2 .if2 .taken) (at-number-at2 .a-at .ensures) (start .pre .1 .0) (at-number-at6 .number-at2 .ensures) (at-box-opened .box-opened .ensures .0) (at-x2 .x2 .given .1)))
 
 out-of-line-returns-4 : (t : ℕ) → out-of-line-lts.Need-returns-4 (out-of-line-calls t) (out-of-line-at t) out-of-line.Post
-out-of-line-returns-4 t c = search (needs, box-absent, c .before .before .before .before .before .before .before .before .before .before .before .before .before .before .before .before .before .before .before .before .before .before .before .pre .1 .0, c .before .before .before .before .before .before .before .before .before .before .before .before .before .before .before .before .before .before .before .before .before .before .before .pre .1 .2)
+out-of-line-returns-4 t c = search (needs, box-absent, c .before .before .before .before .before .before .before .before .before .before .before .before .before .before .before .before .before .before .before .before .before .before .before .before .pre .1 .0, c .before .before .before .before .before .before .before .before .before .before .before .before .before .before .before .before .before .before .before .before .before .before .before .before .pre .1 .2)
 
 out-of-line-returns-5 : (t : ℕ) → out-of-line-lts.Need-returns-5 (out-of-line-calls t) (out-of-line-at t) out-of-line.Post
-out-of-line-returns-5 t c = search (needs, box-refused, c .before .before .before .before .before .before .before .before .before .before .before .before .before .before .before .before .before .before .before .before .before .before .before .pre .1 .0, c .before .before .before .before .before .before .before .before .before .before .before .before .before .before .before .before .before .before .before .before .before .before .before .pre .1 .2)
+out-of-line-returns-5 t c = search (needs, box-refused, c .before .before .before .before .before .before .before .before .before .before .before .before .before .before .before .before .before .before .before .before .before .before .before .before .pre .1 .0, c .before .before .before .before .before .before .before .before .before .before .before .before .before .before .before .before .before .before .before .before .before .before .before .before .pre .1 .2)
 
 out-of-line-returns-6 : (t : ℕ) → out-of-line-lts.Need-returns-6 (out-of-line-calls t) (out-of-line-at t) out-of-line.Post
 out-of-line-returns-6 t c =
@@ -645,14 +662,14 @@ out-of-line-returns-6 t c =
     let at-if2 = at-number-at6 .before .before in
     let at-number-at2 = at-if2 .before .before .before .before in
     let at-number-at = at-number-at2 .before in
-    let start = at-number-at .before .before .before .before .before .before in
+    let start = at-number-at .before .before .before .before .before .before .before in
     rw (c .passed-on2 .ensures) (box-done _ _ _ _ _ _ _ _ _ _ _ _ (at-number-at .kind-at .ensures) (start .pre .1 .2) (at-if2 .if2 .taken) (at-number-at2 .a-at .ensures) (start .pre .1 .0) (at-number-at6 .number-at2 .ensures) (at-box-opened .box-opened .ensures .0) (at-x2 .x2 .given .1) (at-value .value .ensures))
 
 out-of-line-table-opened-requires : (t : ℕ) → out-of-line-lts.Need-table-opened-requires (out-of-line-calls t) (out-of-line-at t) out-of-line.Post
 out-of-line-table-opened-requires t c κs =
     let at-if3 = c .before .before in
     let at-number-at = at-if3 .before .before .before .before .before .before in
-    let start = at-number-at .before .before .before .before .before .before in
+    let start = at-number-at .before .before .before .before .before .before .before in
     (ask-bytes (table-record _ _ (at-number-at .kind-at .ensures) (start .pre .1 .2) (at-if3 .if3 .taken)), omega (arith, row-few (start .pre .1 .0)))
 
 out-of-line-sub-envelopes : (t : ℕ) → out-of-line-lts.Need-sub-envelopes (out-of-line-calls t) (out-of-line-at t) out-of-line.Post
@@ -664,10 +681,10 @@ out-of-line-envelopes-requires t c κs =
     let at-table-opened = at-x3 .before .before .before .before .before .before in
     let at-if3 = at-table-opened .before .before .before in
     let at-number-at = at-if3 .before .before .before .before .before .before in
-    let start = at-number-at .before .before .before .before .before .before in
+    let start = at-number-at .before .before .before .before .before .before .before in
     let r = start .pre .1 .0 in
     let l = level-left _ _ (at-table-opened .table-opened .ensures .1) (at-x3 .x3 .given .1) in
-    let asks = table-asks (typeTable (start .args .rows .now) (start .args .members .now)) (start .args .bytes .now) _ _ _ _ _ _ _ _ _ _ (at-number-at .kind-at .ensures) (start .pre .1 .2) (at-if3 .if3 .taken) (start .pre .1 .0) (at-table-opened .table-opened .ensures .0) (at-x3 .x3 .given .1) in
+    let asks = table-asks (typeTable (start .args .rows .now) (start .args .members .now) (start .args .entries .now)) (start .args .bytes .now) _ _ _ _ _ _ _ _ _ _ (at-number-at .kind-at .ensures) (start .pre .1 .2) (at-if3 .if3 .taken) (start .pre .1 .0) (at-table-opened .table-opened .ensures .0) (at-x3 .x3 .given .1) in
     (omega (arith, start .pre .0, asks .inside, asks .short, l), (ready-at r _ _ (omega arith) (r .in-use), sym (at-number-at .kind-at .ensures) ∙ at-if3 .if3 .taken, asks))
 
 out-of-line-returns-7 : (t : ℕ) → out-of-line-lts.Need-returns-7 (out-of-line-calls t) (out-of-line-at t) out-of-line.Post
@@ -683,7 +700,7 @@ out-of-line-returns-9 t c =
     let at-table-opened = at-x3 .before .before .before .before .before .before in
     let at-if3 = at-table-opened .before .before .before in
     let at-number-at = at-if3 .before .before .before .before .before .before in
-    let start = at-number-at .before .before .before .before .before .before in
+    let start = at-number-at .before .before .before .before .before .before .before in
     rw (c .passed-on3 .ensures) (table-done _ _ _ _ _ _ _ _ _ _ _ _ (at-number-at .kind-at .ensures) (start .pre .1 .2) (at-if3 .if3 .taken) (start .pre .1 .0) (at-table-opened .table-opened .ensures .0) (at-x3 .x3 .given .1) (at-envelopes .envelopes .ensures))
 
 out-of-line-union-member-requires : (t : ℕ) → out-of-line-lts.Need-union-member-requires (out-of-line-calls t) (out-of-line-at t) out-of-line.Post
@@ -695,7 +712,7 @@ out-of-line-union-member-requires t c κs =
     let at-number-at3 = at-number-at4 .before in
     let at-number-at2 = at-number-at3 .before in
     let at-number-at = at-number-at2 .before in
-    let start = at-number-at .before .before .before .before .before .before in
+    let start = at-number-at .before .before .before .before .before .before .before in
     let r = start .pre .1 .0 in
     let q = union-else r (at-number-at .kind-at .ensures) (start .pre .1 .1) (at-if1 .if1 .left) (at-if2 .if2 .left) (at-if3 .if3 .left) in
     let m = union-members r (at-number-at .kind-at .ensures) (at-number-at2 .a-at .ensures) (at-number-at3 .b-at .ensures) q in
@@ -707,7 +724,7 @@ out-of-line-add-content t c =
     let at-if2 = at-if3 .before in
     let at-if1 = at-if2 .before in
     let at-number-at = at-if1 .before .before .before .before in
-    let start = at-number-at .before .before .before .before .before .before in
+    let start = at-number-at .before .before .before .before .before .before .before in
     let r = start .pre .1 .0 in
     let q = union-else r (at-number-at .kind-at .ensures) (start .pre .1 .1) (at-if1 .if1 .left) (at-if2 .if2 .left) (at-if3 .if3 .left) in
     let a = union-record _ _ (at-number-at .kind-at .ensures) (start .pre .1 .2) (start .pre .1 .0 .edition) q in
@@ -724,11 +741,11 @@ out-of-line-content-requires t c κs =
     let at-number-at3 = at-number-at4 .before in
     let at-number-at2 = at-number-at3 .before in
     let at-number-at = at-number-at2 .before in
-    let start = at-number-at .before .before .before .before .before .before in
+    let start = at-number-at .before .before .before .before .before .before .before in
     let r = start .pre .1 .0 in
     let q = union-else r (at-number-at .kind-at .ensures) (start .pre .1 .1) (at-if1 .if1 .left) (at-if2 .if2 .left) (at-if3 .if3 .left) in
     let m = union-members r (at-number-at .kind-at .ensures) (at-number-at2 .a-at .ensures) (at-number-at3 .b-at .ensures) q in
-    let a = union-asks (typeTable (start .args .rows .now) (start .args .members .now)) (start .args .bytes .now) _ _ _ _ _ _ (start .args .objects .now) _ _ (at-number-at .kind-at .ensures) (at-number-at2 .a-at .ensures) (at-number-at3 .b-at .ensures) (at-number-at4 .c-at .ensures) q (start .pre .1 .0) (start .pre .1 .2) (at-union-member .union-member .ensures .0) (at-what .what .given .1) in
+    let a = union-asks (typeTable (start .args .rows .now) (start .args .members .now) (start .args .entries .now)) (start .args .bytes .now) _ _ _ _ _ _ (start .args .objects .now) _ _ (at-number-at .kind-at .ensures) (at-number-at2 .a-at .ensures) (at-number-at3 .b-at .ensures) (at-number-at4 .c-at .ensures) q (start .pre .1 .0) (start .pre .1 .2) (at-union-member .union-member .ensures .0) (at-what .what .given .1) in
     (omega (arith, start .pre .0), (r, member-fits (m .0) _ _ _ (at-union-member .union-member .ensures .1) (at-what .what .given .1), a))
 
 out-of-line-returns-10 : (t : ℕ) → out-of-line-lts.Need-returns-10 (out-of-line-calls t) (out-of-line-at t) out-of-line.Post
@@ -749,14 +766,14 @@ out-of-line-returns-12 t c =
     let at-number-at3 = at-number-at4 .before in
     let at-number-at2 = at-number-at3 .before in
     let at-number-at = at-number-at2 .before in
-    let start = at-number-at .before .before .before .before .before .before in
+    let start = at-number-at .before .before .before .before .before .before .before in
     let q = union-else (start .pre .1 .0) (at-number-at .kind-at .ensures) (start .pre .1 .1) (at-if1 .if1 .left) (at-if2 .if2 .left) (at-if3 .if3 .left) in
     rw (c .passed-on4 .ensures) (union-done _ _ _ _ _ _ _ _ _ _ _ (at-number-at .kind-at .ensures) (at-number-at2 .a-at .ensures) (at-number-at3 .b-at .ensures) (at-number-at4 .c-at .ensures) q (start .pre .1 .0) (start .pre .1 .2) (at-union-member .union-member .ensures .0) (at-what .what .given .1) (at-content .content .ensures))
 
 -- ---- value: a value of any kind
 
 abbrev value-calls : ℕ → value-lts.Claims
-value-calls t = (kind-at-reads.Asked, kind-at-reads.Learnt, a-at-reads.Asked, a-at-reads.Learnt, boolean-reads.Asked, boolean-reads.Learnt, number-reads.Asked, number-reads.Learnt, handle-reads.Asked, handle-reads.Learnt, has-parts-reads.Asked, has-parts-reads.Learnt, composite-below t, composite.Post, fill-at-reads.Asked, fill-at-reads.Learnt, b-at-reads.Asked, b-at-reads.Learnt, numbers-reads.Asked, numbers-reads.Learnt, c-at-reads.Asked, c-at-reads.Learnt, string-reads.Asked, string-reads.Learnt, out-of-line-below t, out-of-line.Post)
+value-calls t = (kind-at-reads.Asked, kind-at-reads.Learnt, a-at-reads.Asked, a-at-reads.Learnt, boolean-reads.Asked, boolean-reads.Learnt, number-reads.Asked, number-reads.Learnt, handle-reads.Asked, handle-reads.Learnt, has-parts-reads.Asked, has-parts-reads.Learnt, composite-below t, composite.Post, fill-at-reads.Asked, fill-at-reads.Learnt, b-at-reads.Asked, b-at-reads.Learnt, numbers-reads.Asked, numbers-reads.Learnt, c-at-reads.Asked, c-at-reads.Learnt, string-reads.Asked, string-reads.Learnt, strict-values-reads.Asked, strict-values-reads.Learnt, out-of-line-below t, out-of-line.Post)
 
 value-returns : (t : ℕ) → value-lts.Need-returns (value-calls t) (value-at t) value.Post
 value-returns t c = search (needs, value-bool)
@@ -766,7 +783,7 @@ value-number-requires t c κs =
     let at-if2 = c .before in
     let at-number-at2 = at-if2 .before .before in
     let at-number-at = at-number-at2 .before in
-    let start = at-number-at .before .before .before .before .before .before in
+    let start = at-number-at .before .before .before .before .before .before .before in
     (number-ask (start .pre .1 .0) (at-number-at .kind-at .ensures) (at-if2 .if2 .taken) (at-number-at2 .a-at .ensures) .0, omega (arith, start .pre .1 .1 .small))
 
 value-returns-2 : (t : ℕ) → value-lts.Need-returns-2 (value-calls t) (value-at t) value.Post
@@ -775,7 +792,7 @@ value-returns-2 t c =
     let at-if2 = at-number .before .before in
     let at-number-at2 = at-if2 .before .before in
     let at-number-at = at-number-at2 .before in
-    let start = at-number-at .before .before .before .before .before .before in
+    let start = at-number-at .before .before .before .before .before .before .before in
     value-number _ _ _ _ _ _ _ _ _ _ _ (at-number-at .kind-at .ensures) (at-if2 .if2 .taken) (at-number-at2 .a-at .ensures) (number-ask (start .pre .1 .0) (at-number-at .kind-at .ensures) (at-if2 .if2 .taken) (at-number-at2 .a-at .ensures) .1) (start .pre .1 .1 .free) (start .pre .1 .1 .held) (at-number .number .ensures)
 
 value-returns-3 : (t : ℕ) → value-lts.Need-returns-3 (value-calls t) (value-at t) value.Post
@@ -785,7 +802,7 @@ value-composite-requires : (t : ℕ) → value-lts.Need-composite-requires (valu
 value-composite-requires t c κs =
     let at-if5 = c .before .before in
     let at-has-parts = at-if5 .before in
-    let start = at-has-parts .before .before .before .before .before .before .before .before .before .before .before .before in
+    let start = at-has-parts .before .before .before .before .before .before .before .before .before .before .before .before .before in
     (omega (arith, start .pre .0), (start .pre .1 .0, sym (at-has-parts .has-parts .ensures) ∙ at-if5 .if5 .taken, start .pre .1 .1))
 
 value-returns-5 : (t : ℕ) → value-lts.Need-returns-5 (value-calls t) (value-at t) value.Post
@@ -801,7 +818,7 @@ value-numbers-requires t c κs =
     let at-if4 = at-has-parts .before in
     let at-number-at2 = at-if4 .before .before .before .before in
     let at-number-at = at-number-at2 .before in
-    let start = at-number-at .before .before .before .before .before .before in
+    let start = at-number-at .before .before .before .before .before .before .before in
     array-ask (start .pre .1 .0) (at-number-at .kind-at .ensures) (at-if4 .if4 .taken) (at-if6 .if6 .left) (at-has-parts .has-parts .ensures) (at-if5 .if5 .left) (at-number-at2 .a-at .ensures) (at-number-at4 .b-at .ensures) (at-number-at3 .a-at2 .ensures) (start .pre .1 .1)
 
 value-returns-6 : (t : ℕ) → value-lts.Need-returns-6 (value-calls t) (value-at t) value.Post
@@ -811,22 +828,41 @@ value-string-requires : (t : ℕ) → value-lts.Need-string-requires (value-call
 value-string-requires t c κs =
     let at-if7 = c .before .before .before .before in
     let at-number-at = at-if7 .before .before .before .before .before .before in
-    let start = at-number-at .before .before .before .before .before .before in
+    let start = at-number-at .before .before .before .before .before .before .before in
     (ask-bytes (string-ask _ _ (at-number-at .kind-at .ensures) (at-if7 .if7 .taken) (start .pre .1 .1)), omega (arith, row-few (start .pre .1 .0)))
 
 value-returns-7 : (t : ℕ) → value-lts.Need-returns-7 (value-calls t) (value-at t) value.Post
 value-returns-7 t c = search (needs, value-string)
 
+value-strict-values-requires : (t : ℕ) → value-lts.Need-strict-values-requires (value-calls t) (value-at t) value.Post
+value-strict-values-requires t c κs =
+    let at-if8 = c .before in
+    let at-kind-at = at-if8 .before .before .before .before .before .before .before in
+    let start = at-kind-at .before .before .before .before .before .before .before in
+    strict-ask (start .pre .1 .0) (at-kind-at .kind-at .ensures) (at-if8 .if8 .taken) (start .pre .1 .1)
+
+value-same-length-9 : (t : ℕ) → value-lts.Need-same-length-9 (value-calls t) (value-at t) value.Post
+value-same-length-9 t c = search needs
+
+value-returns-8 : (t : ℕ) → value-lts.Need-returns-8 (value-calls t) (value-at t) value.Post
+value-returns-8 t c =
+    let at-strict = c .before .before in
+    let at-if8 = at-strict .before .before in
+    let at-kind-at = at-if8 .before .before .before .before .before .before .before in
+    let start = at-kind-at .before .before .before .before .before .before .before in
+    strict-done (start .pre .1 .0) (at-kind-at .kind-at .ensures) (at-if8 .if8 .taken) _ _ _ _ _ _ _ _ (start .pre .1 .1) (at-strict .strict-values .ensures)
+
 value-out-of-line-requires : (t : ℕ) → value-lts.Need-out-of-line-requires (value-calls t) (value-at t) value.Post
 value-out-of-line-requires t c κs =
-    let at-if7 = c .before .before in
+    let at-if8 = c .before .before in
+    let at-if7 = at-if8 .before in
     let at-if4 = at-if7 .before in
     let at-if3 = at-if4 .before in
     let at-if2 = at-if3 .before in
     let at-if1 = at-if2 .before in
     let at-number-at = at-if1 .before .before in
-    let start = at-number-at .before .before .before .before .before .before in
-    (omega (arith, start .pre .0), (start .pre .1 .0, outside-left (typeTable (start .args .rows .now) (start .args .members .now)) (start .args .row) (at-number-at .kind-at .ensures) (at-if1 .if1 .left) (at-if2 .if2 .left) (at-if3 .if3 .left) (at-if4 .if4 .left) (at-if7 .if7 .left), start .pre .1 .1))
+    let start = at-number-at .before .before .before .before .before .before .before in
+    (omega (arith, start .pre .0), (start .pre .1 .0, outside-left (typeTable (start .args .rows .now) (start .args .members .now) (start .args .entries .now)) (start .args .row) (at-number-at .kind-at .ensures) (at-if1 .if1 .left) (at-if2 .if2 .left) (at-if3 .if3 .left) (at-if4 .if4 .left) (at-if7 .if7 .left) (at-if8 .if8 .left), start .pre .1 .1))
 
 value-same-length-6 : (t : ℕ) → value-lts.Need-same-length-6 (value-calls t) (value-at t) value.Post
 value-same-length-6 t c = search needs
@@ -843,14 +879,14 @@ value-same-length-7 t c = search needs
 value-same-length-8 : (t : ℕ) → value-lts.Need-same-length-8 (value-calls t) (value-at t) value.Post
 value-same-length-8 t c = search needs
 
-value-same-length-9 : (t : ℕ) → value-lts.Need-same-length-9 (value-calls t) (value-at t) value.Post
-value-same-length-9 t c = search needs
-
 value-same-length-10 : (t : ℕ) → value-lts.Need-same-length-10 (value-calls t) (value-at t) value.Post
 value-same-length-10 t c = search needs
 
-value-returns-8 : (t : ℕ) → value-lts.Need-returns-8 (value-calls t) (value-at t) value.Post
-value-returns-8 t c = search needs
+value-same-length-11 : (t : ℕ) → value-lts.Need-same-length-11 (value-calls t) (value-at t) value.Post
+value-same-length-11 t c = search needs
+
+value-returns-9 : (t : ℕ) → value-lts.Need-returns-9 (value-calls t) (value-at t) value.Post
+value-returns-9 t c = search needs
 
 -- ---- all six
 
@@ -900,10 +936,11 @@ pub +composite+content+elements+envelopes+out-of-line+value-spec : {M : Type 1} 
     elements-Inv-loop
     elements-μ-loop
     (λ c κs. search needs) (λ c κs. search needs) (elements-numbers-requires t) (λ c. search needs) (elements-returns t)
+    (elements-strict-values-requires t) (λ c. search needs) (elements-returns-2 t)
     (λ c κs. search needs) (λ c. search needs) (λ c κs. search needs) (elements-planned-requires t) (λ c. search needs)
-    (elements-returns-2 t) (elements-loop-holds t) (elements-value-requires t) (λ c. search needs) (λ c. search needs)
-    (λ c. search needs) (λ c. search needs) (elements-returns-3 t) (λ c. search needs) (λ c. search needs)
-    (λ c. search needs) (elements-loop-again t) (λ c. search needs) (λ c. search needs) (elements-returns-4 t))
+    (elements-returns-3 t) (elements-loop-holds t) (elements-value-requires t) (λ c. search needs) (λ c. search needs)
+    (λ c. search needs) (λ c. search needs) (elements-returns-4 t) (λ c. search needs) (λ c. search needs)
+    (λ c. search needs) (elements-loop-again t) (λ c. search needs) (λ c. search needs) (elements-returns-5 t))
     (λ t. envelopes-lts.spec (envelopes-calls t)
     (envelopes-at t)
     envelopes.Post
@@ -943,5 +980,5 @@ pub +composite+content+elements+envelopes+out-of-line+value-spec : {M : Type 1} 
     (λ c. search needs) (λ c κs. search needs) (value-returns-5 t) (λ c. search needs) (λ c κs. search needs)
     (λ c κs. search needs) (λ c. search needs) (value-numbers-requires t) (value-same-length-6 t) (value-returns-6 t)
     (value-b-at-requires-2 t) (value-c-at-requires t) (value-string-requires t) (value-same-length-7 t)
-    (value-same-length-8 t) (value-returns-7 t) (value-out-of-line-requires t) (value-same-length-9 t)
-    (value-same-length-10 t) (value-returns-8 t)
+    (value-same-length-8 t) (value-returns-7 t) (value-strict-values-requires t) (value-same-length-9 t)
+    (value-returns-8 t) (value-out-of-line-requires t) (value-same-length-10 t) (value-same-length-11 t) (value-returns-9 t)

@@ -24,6 +24,7 @@ use Rattle.write_leaves.proofs.Leading.{ask-stands, wrote-length}
 use Rattle.write_leaves.proofs.Writing.{writing}
 use Rattle.write_walk.proofs.Values.{value-bool, value-number, value-handle, value-string, value-empty, string-ask, number-ask, numbers-ask, numbers-done, array-ask, array-done}
 use Rattle.write_walk.proofs.Plans.{planned-ask, planned-done, alone-ask, alone-done}
+use Rattle.write_walk.proofs.StrictRows.{strict-run-ask, strict-ask, strict-run-done, strict-done}
 use Rattle.write_walk.proofs.Composite.{Writing, writing-start, level-known, fill-within, fill-done, into-done, call-asks, call-done, call-refused, out-done, all-put}
 use Rattle.write_records.proofs.Objects.{object-asks, object-few, object-counted, object-written}
 use Rattle.write_walk.proofs.OutOfLine.{vector-record, box-record, table-record, union-record, level-left, vector-closed, vector-refused, vector-claimed, vector-done, box-absent, box-refused, box-claimed, box-done, table-closed, table-refused, table-claimed, table-done, union-none, union-bad, union-asks, union-fits, union-done}
@@ -86,85 +87,86 @@ use Rattle.write_leaves.proofs.scalars.boolean.Reads as boolean-reads
 use Rattle.write_leaves.proofs.scalars.handle.Reads as handle-reads
 use Rattle.write_leaves.proofs.scalars.number.Reads as number-reads
 use Rattle.write_leaves.proofs.scalars.numbers.Reads as numbers-reads
+use Rattle.write_leaves.proofs.strict_rows.strict_values.Reads as strict-values-reads
 use Rattle.write_walk.proofs.cycle.+composite+content+elements+envelopes+object+out_of_line+single+value.{statement}
 use Rattle.write_walk.proofs.cycle.+composite+content+elements+envelopes+object+out_of_line+single+value.Tie.{close}
 
-abbrev μ-composite : Measures 6 composite-kinds.ps ℕ
-μ-composite κs a = a .1 .1 .1 .1 .1 .1 .1 .0 * 1048576 + 4 * (a .1 .1 .1 .1 .1 .1 .1 .1 .0) + 1
+abbrev μ-composite : Measures 7 composite-kinds.ps ℕ
+μ-composite κs a = a .1 .1 .1 .1 .1 .1 .1 .1 .0 * 1048576 + 4 * (a .1 .1 .1 .1 .1 .1 .1 .1 .1 .0) + 1
 
-abbrev μ-content : Measures 6 content-kinds.ps ℕ
-μ-content κs a = a .1 .1 .1 .1 .1 .1 .1 .0 * 1048576
+abbrev μ-content : Measures 7 content-kinds.ps ℕ
+μ-content κs a = a .1 .1 .1 .1 .1 .1 .1 .1 .0 * 1048576
 
-abbrev μ-elements : Measures 6 elements-kinds.ps ℕ
-μ-elements κs a = a .1 .1 .1 .1 .1 .1 .1 .0 * 1048576 + 4 * (a .1 .1 .1 .1 .1 .1 .1 .1 .0) + 3 + a .1 .1 .1 .1 .1 .1 .1 .1 .1 .0
+abbrev μ-elements : Measures 7 elements-kinds.ps ℕ
+μ-elements κs a = a .1 .1 .1 .1 .1 .1 .1 .1 .0 * 1048576 + 4 * (a .1 .1 .1 .1 .1 .1 .1 .1 .1 .0) + 3 + a .1 .1 .1 .1 .1 .1 .1 .1 .1 .1 .0
 
-abbrev μ-envelopes : Measures 6 envelopes-kinds.ps ℕ
-μ-envelopes κs a = a .1 .1 .1 .1 .1 .1 .1 .0 * 1048576 + 1 + a .1 .1 .1 .1 .1 .1 .1 .1 .1 .0
+abbrev μ-envelopes : Measures 7 envelopes-kinds.ps ℕ
+μ-envelopes κs a = a .1 .1 .1 .1 .1 .1 .1 .1 .0 * 1048576 + 1 + a .1 .1 .1 .1 .1 .1 .1 .1 .1 .1 .0
 
-abbrev μ-object : Measures 6 object-kinds.ps ℕ
-μ-object κs a = a .1 .1 .1 .1 .1 .1 .1 .0 * 1048576 + 4 * (a .1 .1 .1 .1 .1 .1 .1 .1 .0) + 4 + a .1 .1 .1 .1 .1 .1 .1 .1 .1 .0 .count
+abbrev μ-object : Measures 7 object-kinds.ps ℕ
+μ-object κs a = a .1 .1 .1 .1 .1 .1 .1 .1 .0 * 1048576 + 4 * (a .1 .1 .1 .1 .1 .1 .1 .1 .1 .0) + 4 + a .1 .1 .1 .1 .1 .1 .1 .1 .1 .1 .0 .count
 
-abbrev μ-out-of-line : Measures 6 out-of-line-kinds.ps ℕ
-μ-out-of-line κs a = a .1 .1 .1 .1 .1 .1 .1 .0 * 1048576 + 4 * (a .1 .1 .1 .1 .1 .1 .1 .1 .0) + 1
+abbrev μ-out-of-line : Measures 7 out-of-line-kinds.ps ℕ
+μ-out-of-line κs a = a .1 .1 .1 .1 .1 .1 .1 .1 .0 * 1048576 + 4 * (a .1 .1 .1 .1 .1 .1 .1 .1 .1 .0) + 1
 
-abbrev μ-single : Measures 6 single-kinds.ps ℕ
-μ-single κs a = a .1 .1 .1 .1 .1 .1 .1 .0 * 1048576 + 4 * (a .1 .1 .1 .1 .1 .1 .1 .1 .0) + 3
+abbrev μ-single : Measures 7 single-kinds.ps ℕ
+μ-single κs a = a .1 .1 .1 .1 .1 .1 .1 .1 .0 * 1048576 + 4 * (a .1 .1 .1 .1 .1 .1 .1 .1 .1 .0) + 3
 
-abbrev μ-value : Measures 6 value-kinds.ps ℕ
-μ-value κs a = a .1 .1 .1 .1 .1 .1 .1 .0 * 1048576 + 4 * (a .1 .1 .1 .1 .1 .1 .1 .1 .0) + 2
+abbrev μ-value : Measures 7 value-kinds.ps ℕ
+μ-value κs a = a .1 .1 .1 .1 .1 .1 .1 .1 .0 * 1048576 + 4 * (a .1 .1 .1 .1 .1 .1 .1 .1 .1 .0) + 2
 
-abbrev composite-at : ℕ → In 6 composite-kinds.ps
-composite-at t = and 6 composite-kinds.ps (is 6 composite-kinds.ps μ-composite t) composite.Pre
+abbrev composite-at : ℕ → In 7 composite-kinds.ps
+composite-at t = and 7 composite-kinds.ps (is 7 composite-kinds.ps μ-composite t) composite.Pre
 
-abbrev composite-below : ℕ → In 6 composite-kinds.ps
+abbrev composite-below : ℕ → In 7 composite-kinds.ps
 composite-below t =
-    and 6 composite-kinds.ps (falls 6 composite-kinds.ps _<_ μ-composite t) composite.Pre
+    and 7 composite-kinds.ps (falls 7 composite-kinds.ps _<_ μ-composite t) composite.Pre
 
-abbrev content-at : ℕ → In 6 content-kinds.ps
-content-at t = and 6 content-kinds.ps (is 6 content-kinds.ps μ-content t) content.Pre
+abbrev content-at : ℕ → In 7 content-kinds.ps
+content-at t = and 7 content-kinds.ps (is 7 content-kinds.ps μ-content t) content.Pre
 
-abbrev content-below : ℕ → In 6 content-kinds.ps
-content-below t = and 6 content-kinds.ps (falls 6 content-kinds.ps _<_ μ-content t) content.Pre
+abbrev content-below : ℕ → In 7 content-kinds.ps
+content-below t = and 7 content-kinds.ps (falls 7 content-kinds.ps _<_ μ-content t) content.Pre
 
-abbrev elements-at : ℕ → In 6 elements-kinds.ps
-elements-at t = and 6 elements-kinds.ps (is 6 elements-kinds.ps μ-elements t) elements.Pre
+abbrev elements-at : ℕ → In 7 elements-kinds.ps
+elements-at t = and 7 elements-kinds.ps (is 7 elements-kinds.ps μ-elements t) elements.Pre
 
-abbrev elements-below : ℕ → In 6 elements-kinds.ps
+abbrev elements-below : ℕ → In 7 elements-kinds.ps
 elements-below t =
-    and 6 elements-kinds.ps (falls 6 elements-kinds.ps _<_ μ-elements t) elements.Pre
+    and 7 elements-kinds.ps (falls 7 elements-kinds.ps _<_ μ-elements t) elements.Pre
 
-abbrev envelopes-at : ℕ → In 6 envelopes-kinds.ps
-envelopes-at t = and 6 envelopes-kinds.ps (is 6 envelopes-kinds.ps μ-envelopes t) envelopes.Pre
+abbrev envelopes-at : ℕ → In 7 envelopes-kinds.ps
+envelopes-at t = and 7 envelopes-kinds.ps (is 7 envelopes-kinds.ps μ-envelopes t) envelopes.Pre
 
-abbrev envelopes-below : ℕ → In 6 envelopes-kinds.ps
+abbrev envelopes-below : ℕ → In 7 envelopes-kinds.ps
 envelopes-below t =
-    and 6 envelopes-kinds.ps (falls 6 envelopes-kinds.ps _<_ μ-envelopes t) envelopes.Pre
+    and 7 envelopes-kinds.ps (falls 7 envelopes-kinds.ps _<_ μ-envelopes t) envelopes.Pre
 
-abbrev object-at : ℕ → In 6 object-kinds.ps
-object-at t = and 6 object-kinds.ps (is 6 object-kinds.ps μ-object t) object.Pre
+abbrev object-at : ℕ → In 7 object-kinds.ps
+object-at t = and 7 object-kinds.ps (is 7 object-kinds.ps μ-object t) object.Pre
 
-abbrev object-below : ℕ → In 6 object-kinds.ps
-object-below t = and 6 object-kinds.ps (falls 6 object-kinds.ps _<_ μ-object t) object.Pre
+abbrev object-below : ℕ → In 7 object-kinds.ps
+object-below t = and 7 object-kinds.ps (falls 7 object-kinds.ps _<_ μ-object t) object.Pre
 
-abbrev out-of-line-at : ℕ → In 6 out-of-line-kinds.ps
+abbrev out-of-line-at : ℕ → In 7 out-of-line-kinds.ps
 out-of-line-at t =
-    and 6 out-of-line-kinds.ps (is 6 out-of-line-kinds.ps μ-out-of-line t) out-of-line.Pre
+    and 7 out-of-line-kinds.ps (is 7 out-of-line-kinds.ps μ-out-of-line t) out-of-line.Pre
 
-abbrev out-of-line-below : ℕ → In 6 out-of-line-kinds.ps
+abbrev out-of-line-below : ℕ → In 7 out-of-line-kinds.ps
 out-of-line-below t =
-    and 6 out-of-line-kinds.ps (falls 6 out-of-line-kinds.ps _<_ μ-out-of-line t) out-of-line.Pre
+    and 7 out-of-line-kinds.ps (falls 7 out-of-line-kinds.ps _<_ μ-out-of-line t) out-of-line.Pre
 
-abbrev single-at : ℕ → In 6 single-kinds.ps
-single-at t = and 6 single-kinds.ps (is 6 single-kinds.ps μ-single t) single.Pre
+abbrev single-at : ℕ → In 7 single-kinds.ps
+single-at t = and 7 single-kinds.ps (is 7 single-kinds.ps μ-single t) single.Pre
 
-abbrev single-below : ℕ → In 6 single-kinds.ps
-single-below t = and 6 single-kinds.ps (falls 6 single-kinds.ps _<_ μ-single t) single.Pre
+abbrev single-below : ℕ → In 7 single-kinds.ps
+single-below t = and 7 single-kinds.ps (falls 7 single-kinds.ps _<_ μ-single t) single.Pre
 
-abbrev value-at : ℕ → In 6 value-kinds.ps
-value-at t = and 6 value-kinds.ps (is 6 value-kinds.ps μ-value t) value.Pre
+abbrev value-at : ℕ → In 7 value-kinds.ps
+value-at t = and 7 value-kinds.ps (is 7 value-kinds.ps μ-value t) value.Pre
 
-abbrev value-below : ℕ → In 6 value-kinds.ps
-value-below t = and 6 value-kinds.ps (falls 6 value-kinds.ps _<_ μ-value t) value.Pre
+abbrev value-below : ℕ → In 7 value-kinds.ps
+value-below t = and 7 value-kinds.ps (falls 7 value-kinds.ps _<_ μ-value t) value.Pre
 
 -- ---- composite: structs and arrays
 
@@ -172,18 +174,18 @@ abbrev composite-calls : ℕ → composite-lts.Claims
 composite-calls t = (a-at-reads.Asked, a-at-reads.Learnt, row-of-reads.Asked, row-of-reads.Learnt, kind-at-reads.Asked, kind-at-reads.Learnt, plan-of-reads.Asked, plan-of-reads.Learnt, number-at-reads.Asked, number-at-reads.Learnt, planned-reads.Asked, planned-reads.Learnt, next-step-reads.Asked, next-step-reads.Learnt, put-zeros-reads.Asked, put-zeros-reads.Learnt, value-below t, value.Post)
 
 abbrev composite-Inv-loop : composite-lts.InvT-loop
-composite-Inv-loop rows members sizes alignments values out₀ base depth row at first part kept₀ around₀ level₀ due₀ place₀ d₀ out kept around level due place d =
-    Ready (typeTable rows members) sizes alignments depth row × Writing (record { row = 0; done = 0; at = 0 }) (typeTable rows members) alignments values base depth row at out₀ d₀ out kept around level due place d
+composite-Inv-loop rows members entries sizes alignments values out₀ base depth row at first part kept₀ around₀ level₀ due₀ place₀ d₀ out kept around level due place d =
+    Ready (typeTable rows members entries) sizes alignments depth row × Writing (record { row = 0; done = 0; at = 0 }) (typeTable rows members entries) alignments values base depth row at out₀ d₀ out kept around level due place d
 
 abbrev composite-μ-loop : composite-lts.MeasureT-loop
-composite-μ-loop rows members sizes alignments values out₀ base depth row at first part kept₀ around₀ level₀ due₀ place₀ d₀ out kept around level due place d =
+composite-μ-loop rows members entries sizes alignments values out₀ base depth row at first part kept₀ around₀ level₀ due₀ place₀ d₀ out kept around level due place d =
     fuel rows level due place around
 
 composite-planned-requires : (t : ℕ) → composite-lts.Need-planned-requires (composite-calls t) (composite-at t) composite.Post composite-Inv-loop composite-μ-loop
 composite-planned-requires t c κs =
     let at-if2 = c .before .before .before in
     let at-plan-of = at-if2 .before .before in
-    let start = at-plan-of .before .before .before .before .before .before .before .before .before in
+    let start = at-plan-of .before .before .before .before .before .before .before .before .before .before in
     alone-ask (start .pre .1 .0) (at-plan-of .plan-of .ensures) (at-if2 .if2 .taken) (c .before .number-at .ensures) (start .pre .1 .2)
 
 composite-returns : (t : ℕ) → composite-lts.Need-returns (composite-calls t) (composite-at t) composite.Post composite-Inv-loop composite-μ-loop
@@ -192,12 +194,12 @@ composite-returns t c =
     let at-number-at = at-planned .before .before in
     let at-if2 = at-number-at .before .before in
     let at-plan-of = at-if2 .before .before in
-    let start = at-plan-of .before .before .before .before .before .before .before .before .before in
+    let start = at-plan-of .before .before .before .before .before .before .before .before .before .before in
     alone-done (start .pre .1 .0) (at-plan-of .plan-of .ensures) (at-if2 .if2 .taken) (at-number-at .number-at .ensures) _ _ _ _ _ _ _ (start .pre .1 .2) (at-planned .planned .ensures)
 
 composite-loop-holds : (t : ℕ) → composite-lts.Need-loop-holds (composite-calls t) (composite-at t) composite.Post composite-Inv-loop composite-μ-loop
 composite-loop-holds t c =
-    let start = c .before .before .before .before .before .before .before .before in
+    let start = c .before .before .before .before .before .before .before .before .before in
     (start .pre .1 .0, writing-start (start .pre .1 .0) _ _ _ refl (start .pre .1 .1) (start .pre .1 .2))
 
 composite-sub-put-zeros : (t : ℕ) → composite-lts.Need-sub-put-zeros (composite-calls t) (composite-at t) composite.Post composite-Inv-loop composite-μ-loop
@@ -261,7 +263,7 @@ composite-value-requires t c κs =
     let at-part2 = c .before .before in
     let at-next-step = at-part2 .before .before in
     let at-loop = at-next-step .before in
-    let start = at-loop .before .before .before .before .before .before .before .before .before in
+    let start = at-loop .before .before .before .before .before .before .before .before .before .before in
     let k = call-asks (at-loop .loop .inv .0) (at-loop .loop .inv .1) (at-next-step .next-step .ensures) (at-part2 .part2 .given .1) in (omega (arith, start .pre .0, k .2), (k .0, k .1))
 
 composite-add-place : (t : ℕ) → composite-lts.Need-add-place (composite-calls t) (composite-at t) composite.Post composite-Inv-loop composite-μ-loop
@@ -329,12 +331,12 @@ content-calls t = (unknown-content-reads.Asked, unknown-content-reads.Learnt, nu
 
 content-unknown-content-requires : (t : ℕ) → content-lts.Need-unknown-content-requires (content-calls t) (content-at t) content.Post
 content-unknown-content-requires t c κs =
-    let start = c .before .before .before .before .before .before .before in
+    let start = c .before .before .before .before .before .before .before .before in
     (start .pre .1 .1, start .pre .1 .2)
 
 content-sub-refused : (t : ℕ) → content-lts.Need-sub-refused (content-calls t) (content-at t) content.Post
 content-sub-refused t c =
-    let start = c .before .before .before .before .before .before .before .before .before .before .before .before in
+    let start = c .before .before .before .before .before .before .before .before .before .before .before .before .before in
     omega (arith, start .pre .1 .2)
 
 content-returns : (t : ℕ) → content-lts.Need-returns (content-calls t) (content-at t) content.Post
@@ -351,7 +353,7 @@ content-value-requires t c κs =
     let at-if1 = at-if2 .before in
     let at-number-at = at-if1 .before in
     let at-what = at-number-at .before .before .before in
-    let start = at-what .before .before .before .before .before .before in
+    let start = at-what .before .before .before .before .before .before .before in
     (omega (arith, start .pre .0, at-if2 .if2 .left, payload-few (start .pre .1 .0) (at-what .what .given .1)), (payload-ready (start .pre .1 .0) (at-what .what .given .1), small-asks _ _ (start .args .out .now) _ _ _ _ _ (start .pre .1 .0) (at-what .what .given .1) (at-number-at .number-at .ensures) (start .pre .1 .1) (omega (arith, at-if1 .if1 .taken)) (λ z. omega (arith, z, at-if2 .if2 .left))))
 
 content-sub-sealed : (t : ℕ) → content-lts.Need-sub-sealed (content-calls t) (content-at t) content.Post
@@ -369,7 +371,7 @@ content-cast-sealed t c =
 content-sealed-requires : (t : ℕ) → content-lts.Need-sealed-requires (content-calls t) (content-at t) content.Post
 content-sealed-requires t c κs =
     let at-if1 = c .before .before .before .before .before .before .before .before .before .before .before in
-    let start = at-if1 .before .before .before .before .before .before .before .before .before .before in
+    let start = at-if1 .before .before .before .before .before .before .before .before .before .before .before in
     (omega (arith, start .pre .1 .1 .inside, start .pre .1 .1 .free), omega (arith, at-if1 .if1 .taken))
 
 content-returns-2 : (t : ℕ) → content-lts.Need-returns-2 (content-calls t) (content-at t) content.Post
@@ -384,14 +386,14 @@ content-returns-3 t c =
     let at-if1 = at-if2 .before in
     let at-number-at = at-if1 .before in
     let at-what = at-number-at .before .before .before in
-    let start = at-what .before .before .before .before .before .before in
+    let start = at-what .before .before .before .before .before .before .before in
     small-sealed _ _ _ _ _ _ _ _ (start .pre .1 .0) (at-what .what .given .1) (at-number-at .number-at .ensures) (start .pre .1 .1) (omega (arith, at-if1 .if1 .taken)) (λ z. omega (arith, z, at-if2 .if2 .left)) (at-value .value .ensures) (at-d .d .given .1) refl (at-sealed .sealed .ensures)
 
 content-deeper-requires : (t : ℕ) → content-lts.Need-deeper-requires (content-calls t) (content-at t) content.Post
 content-deeper-requires t c κs =
     let at-number-at = c .before in
     let at-what = at-number-at .before .before .before in
-    let start = at-what .before .before .before .before .before .before in
+    let start = at-what .before .before .before .before .before .before .before in
     (start .pre .1 .1 .free, start .pre .1 .1 .held, start .pre .1 .2, omega (arith, payload-small (start .pre .1 .0) (at-what .what .given .1) (at-number-at .number-at .ensures)))
 
 content-sub-single : (t : ℕ) → content-lts.Need-sub-single (content-calls t) (content-at t) content.Post
@@ -407,7 +409,7 @@ content-single-requires t c κs =
     let at-if1 = at-deeper .before in
     let at-number-at = at-if1 .before in
     let at-what = at-number-at .before .before .before in
-    let start = at-what .before .before .before .before .before .before in
+    let start = at-what .before .before .before .before .before .before .before in
     let l = level-left _ _ (at-deeper .deeper .ensures .2) (at-x .x .given .1) in (omega (arith, start .pre .0, l, payload-few (start .pre .1 .0) (at-what .what .given .1)), (payload-ready (start .pre .1 .0) (at-what .what .given .1), payload-claimed _ _ (start .args .out .now) _ _ _ _ _ (start .pre .1 .0) (at-what .what .given .1) (at-number-at .number-at .ensures) (start .pre .1 .1) (omega (arith, at-if1 .if1 .left)) _ (at-deeper .deeper .ensures .0) (at-x .x .given .1)))
 
 content-sub-bytes : (t : ℕ) → content-lts.Need-sub-bytes (content-calls t) (content-at t) content.Post
@@ -419,7 +421,7 @@ content-sub-bytes t c =
     let at-if1 = at-deeper .before in
     let at-number-at = at-if1 .before in
     let at-what = at-number-at .before .before .before in
-    let start = at-what .before .before .before .before .before .before in
+    let start = at-what .before .before .before .before .before .before .before in
     omega (arith, large-rises _ _ _ _ _ _ _ _ (start .pre .1 .0) (at-what .what .given .1) (at-number-at .number-at .ensures) (start .pre .1 .1) (omega (arith, at-if1 .if1 .left)) _ (at-deeper .deeper .ensures .0) (at-x .x .given .1) (at-single .single .ensures) (at-d3 .d3 .given .1))
 
 content-cast-sealed-2 : (t : ℕ) → content-lts.Need-cast-sealed-2 (content-calls t) (content-at t) content.Post
@@ -431,7 +433,7 @@ content-cast-sealed-2 t c =
     let at-if1 = at-deeper .before in
     let at-number-at = at-if1 .before in
     let at-what = at-number-at .before .before .before in
-    let start = at-what .before .before .before .before .before .before in
+    let start = at-what .before .before .before .before .before .before .before in
     record { fits = omega (arith, large-rises _ _ _ _ _ _ _ _ (start .pre .1 .0) (at-what .what .given .1) (at-number-at .number-at .ensures) (start .pre .1 .1) (omega (arith, at-if1 .if1 .left)) _ (at-deeper .deeper .ensures .0) (at-x .x .given .1) (at-single .single .ensures) (at-d3 .d3 .given .1)) }
 
 content-sub-sealed-2 : (t : ℕ) → content-lts.Need-sub-sealed-2 (content-calls t) (content-at t) content.Post
@@ -443,7 +445,7 @@ content-sub-sealed-2 t c =
     let at-if1 = at-deeper .before in
     let at-number-at = at-if1 .before in
     let at-what = at-number-at .before .before .before in
-    let start = at-what .before .before .before .before .before .before in
+    let start = at-what .before .before .before .before .before .before .before in
     omega (arith, large-rises _ _ _ _ _ _ _ _ (start .pre .1 .0) (at-what .what .given .1) (at-number-at .number-at .ensures) (start .pre .1 .1) (omega (arith, at-if1 .if1 .left)) _ (at-deeper .deeper .ensures .0) (at-x .x .given .1) (at-single .single .ensures) (at-d3 .d3 .given .1))
 
 content-cast-sealed-3 : (t : ℕ) → content-lts.Need-cast-sealed-3 (content-calls t) (content-at t) content.Post
@@ -455,14 +457,14 @@ content-cast-sealed-3 t c =
     let at-if1 = at-deeper .before in
     let at-number-at = at-if1 .before in
     let at-what = at-number-at .before .before .before in
-    let start = at-what .before .before .before .before .before .before in
+    let start = at-what .before .before .before .before .before .before .before in
     record { fits = omega (arith, large-rises _ _ _ _ _ _ _ _ (start .pre .1 .0) (at-what .what .given .1) (at-number-at .number-at .ensures) (start .pre .1 .1) (omega (arith, at-if1 .if1 .left)) _ (at-deeper .deeper .ensures .0) (at-x .x .given .1) (at-single .single .ensures) (at-d3 .d3 .given .1)) }
 
 content-sealed-requires-2 : (t : ℕ) → content-lts.Need-sealed-requires-2 (content-calls t) (content-at t) content.Post
 content-sealed-requires-2 t c κs =
     let at-number-at = c .before .before .before .before .before .before .before .before .before .before .before .before .before .before .before .before .before in
     let at-what = at-number-at .before .before .before in
-    let start = at-what .before .before .before .before .before .before in
+    let start = at-what .before .before .before .before .before .before .before in
     (omega (arith, start .pre .1 .1 .inside, start .pre .1 .1 .free), payload-small (start .pre .1 .0) (at-what .what .given .1) (at-number-at .number-at .ensures))
 
 content-returns-4 : (t : ℕ) → content-lts.Need-returns-4 (content-calls t) (content-at t) content.Post
@@ -475,7 +477,7 @@ content-returns-5 t c =
     let at-if1 = at-deeper .before in
     let at-number-at = at-if1 .before in
     let at-what = at-number-at .before .before .before in
-    let start = at-what .before .before .before .before .before .before in
+    let start = at-what .before .before .before .before .before .before .before in
     large-closed _ _ _ _ _ _ _ _ (start .pre .1 .0) (at-what .what .given .1) (at-number-at .number-at .ensures) (start .pre .1 .1) (omega (arith, at-if1 .if1 .left)) _ (at-deeper .deeper .ensures .0) (at-deeper .deeper .ensures .3) (at-d2 .d2 .given .1)
 
 content-returns-6 : (t : ℕ) → content-lts.Need-returns-6 (content-calls t) (content-at t) content.Post
@@ -485,7 +487,7 @@ content-returns-6 t c =
     let at-if1 = at-deeper .before in
     let at-number-at = at-if1 .before in
     let at-what = at-number-at .before .before .before in
-    let start = at-what .before .before .before .before .before .before in
+    let start = at-what .before .before .before .before .before .before .before in
     large-not-open _ _ _ _ _ _ _ _ (start .pre .1 .0) (at-what .what .given .1) (at-number-at .number-at .ensures) (start .pre .1 .1) (omega (arith, at-if1 .if1 .left)) _ (at-deeper .deeper .ensures .0) (at-f2 .f2 .given .1)
 
 content-returns-7 : (t : ℕ) → content-lts.Need-returns-7 (content-calls t) (content-at t) content.Post
@@ -497,7 +499,7 @@ content-returns-7 t c =
     let at-if1 = at-deeper .before in
     let at-number-at = at-if1 .before in
     let at-what = at-number-at .before .before .before in
-    let start = at-what .before .before .before .before .before .before in
+    let start = at-what .before .before .before .before .before .before .before in
     large-refused _ _ _ _ _ _ _ _ (start .pre .1 .0) (at-what .what .given .1) (at-number-at .number-at .ensures) (start .pre .1 .1) (omega (arith, at-if1 .if1 .left)) _ (at-deeper .deeper .ensures .0) (at-x .x .given .1) (at-single .single .ensures) (at-f3 .f3 .given .1)
 
 content-returns-8 : (t : ℕ) → content-lts.Need-returns-8 (content-calls t) (content-at t) content.Post
@@ -510,22 +512,22 @@ content-returns-8 t c =
     let at-if1 = at-deeper .before in
     let at-number-at = at-if1 .before in
     let at-what = at-number-at .before .before .before in
-    let start = at-what .before .before .before .before .before .before in
+    let start = at-what .before .before .before .before .before .before .before in
     large-sealed _ _ _ _ _ _ _ _ (start .pre .1 .0) (at-what .what .given .1) (at-number-at .number-at .ensures) (start .pre .1 .1) (omega (arith, at-if1 .if1 .left)) _ (at-deeper .deeper .ensures .0) (at-x .x .given .1) (at-single .single .ensures) (at-d3 .d3 .given .1) refl refl (at-sealed2 .sealed2 .ensures)
 
 -- ---- elements: a vector's elements, or what an object holds
 
 abbrev elements-calls : ℕ → elements-lts.Claims
-elements-calls t = (kind-at-reads.Asked, kind-at-reads.Learnt, a-at-reads.Asked, a-at-reads.Learnt, numbers-reads.Asked, numbers-reads.Learnt, number-at-reads.Asked, number-at-reads.Learnt, plan-of-reads.Asked, plan-of-reads.Learnt, planned-reads.Asked, planned-reads.Learnt, value-below t, value.Post)
+elements-calls t = (kind-at-reads.Asked, kind-at-reads.Learnt, a-at-reads.Asked, a-at-reads.Learnt, numbers-reads.Asked, numbers-reads.Learnt, strict-values-reads.Asked, strict-values-reads.Learnt, number-at-reads.Asked, number-at-reads.Learnt, plan-of-reads.Asked, plan-of-reads.Learnt, planned-reads.Asked, planned-reads.Learnt, value-below t, value.Post)
 
 abbrev elements-Inv-loop : elements-lts.InvT-loop
-elements-Inv-loop rows members sizes alignments values out₀ base depth row count at kind size d₀ place₀ left₀ out d place left =
-    RunLeft (writing values base) (sizeOf (typeTable rows members) row) (λ k. writeRow (typeTable rows members) depth row) (count * sizeOf (typeTable rows members) row) at
-    (E.elements (λ k. writeRow (typeTable rows members) depth row) 0 count) out₀ d₀ out d 0 left place
+elements-Inv-loop rows members entries sizes alignments values out₀ base depth row count at kind size d₀ place₀ left₀ out d place left =
+    RunLeft (writing values base) (sizeOf (typeTable rows members entries) row) (λ k. writeRow (typeTable rows members entries) depth row) (count * sizeOf (typeTable rows members entries) row) at
+    (E.elements (λ k. writeRow (typeTable rows members entries) depth row) 0 count) out₀ d₀ out d 0 left place
     × (length out ≡ length out₀)
 
 abbrev elements-μ-loop : elements-lts.MeasureT-loop
-elements-μ-loop rows members sizes alignments values out₀ base depth row count at kind size d₀ place₀ left₀ out d place left =
+elements-μ-loop rows members entries sizes alignments values out₀ base depth row count at kind size d₀ place₀ left₀ out d place left =
     left
 
 elements-numbers-requires : (t : ℕ) → elements-lts.Need-numbers-requires (elements-calls t) (elements-at t) elements.Post elements-Inv-loop elements-μ-loop
@@ -533,34 +535,49 @@ elements-numbers-requires t c κs =
     let at-number-at2 = c .before in
     let at-if1 = at-number-at2 .before in
     let at-number-at = at-if1 .before in
-    let start = at-number-at .before .before .before .before .before in
+    let start = at-number-at .before .before .before .before .before .before in
     numbers-ask (start .pre .1 .0) (at-number-at .kind-at .ensures) (at-if1 .if1 .taken) (at-number-at2 .a-at .ensures) _ (start .pre .1 .1)
 
 elements-returns : (t : ℕ) → elements-lts.Need-returns (elements-calls t) (elements-at t) elements.Post elements-Inv-loop elements-μ-loop
 elements-returns t c = search (needs, numbers-done)
 
-elements-planned-requires : (t : ℕ) → elements-lts.Need-planned-requires (elements-calls t) (elements-at t) elements.Post elements-Inv-loop elements-μ-loop
-elements-planned-requires t c κs = planned-ask (c .before .before .before .before .before .before .before .before .before .before .before .before .pre .1 .0) (c .before .before .before .plan-of .ensures) (c .before .if2 .taken) (c .before .before .before .before .number-at .ensures) _ (c .before .before .before .before .before .before .before .before .before .before .before .before .pre .1 .1)
+elements-strict-values-requires : (t : ℕ) → elements-lts.Need-strict-values-requires (elements-calls t) (elements-at t) elements.Post elements-Inv-loop elements-μ-loop
+elements-strict-values-requires t c κs =
+    let at-if2 = c .before in
+    let at-kind-at = at-if2 .before .before in
+    let start = at-kind-at .before .before .before .before .before .before in
+    strict-run-ask (start .pre .1 .0) (at-kind-at .kind-at .ensures) (at-if2 .if2 .taken) _ (start .pre .1 .1)
 
 elements-returns-2 : (t : ℕ) → elements-lts.Need-returns-2 (elements-calls t) (elements-at t) elements.Post elements-Inv-loop elements-μ-loop
-elements-returns-2 t c = planned-done (c .before .before .before .before .before .before .before .before .before .before .before .before .before .before .before .pre .1 .0) (c .before .before .before .before .before .before .plan-of .ensures) (c .before .before .before .before .if2 .taken) (c .before .before .before .before .before .before .before .number-at .ensures) _ _ _ _ _ _ _ _ (c .before .before .before .before .before .before .before .before .before .before .before .before .before .before .before .pre .1 .1) (c .before .before .planned .ensures)
+elements-returns-2 t c =
+    let at-strict = c .before .before in
+    let at-if2 = at-strict .before .before in
+    let at-kind-at = at-if2 .before .before in
+    let start = at-kind-at .before .before .before .before .before .before in
+    strict-run-done (start .pre .1 .0) (at-kind-at .kind-at .ensures) (at-if2 .if2 .taken) _ _ _ _ _ _ _ _ (start .pre .1 .1) (at-strict .strict-values .ensures)
 
-elements-loop-holds : (t : ℕ) → elements-lts.Need-loop-holds (elements-calls t) (elements-at t) elements.Post elements-Inv-loop elements-μ-loop
-elements-loop-holds t c = (run-start 0 _ _ refl (c .before .before .before .before .before .before .before .before .before .before .before .pre .1 .1), search needs)
-
-elements-value-requires : (t : ℕ) → elements-lts.Need-value-requires (elements-calls t) (elements-at t) elements.Post elements-Inv-loop elements-μ-loop
-elements-value-requires t c κs = (omega (arith, c .before .before .before .before .before .before .before .before .before .before .before .before .before .before .pre .0), (search needs, run-asks (c .before .before .loop .inv .0) (c .before .loop-test .taken)))
+elements-planned-requires : (t : ℕ) → elements-lts.Need-planned-requires (elements-calls t) (elements-at t) elements.Post elements-Inv-loop elements-μ-loop
+elements-planned-requires t c κs = planned-ask (c .before .before .before .before .before .before .before .before .before .before .before .before .before .before .pre .1 .0) (c .before .before .before .plan-of .ensures) (c .before .if3 .taken) (c .before .before .before .before .number-at .ensures) _ (c .before .before .before .before .before .before .before .before .before .before .before .before .before .before .pre .1 .1)
 
 elements-returns-3 : (t : ℕ) → elements-lts.Need-returns-3 (elements-calls t) (elements-at t) elements.Post elements-Inv-loop elements-μ-loop
-elements-returns-3 t c = run-stopped (c .before .before .before .before .before .before .before .before .loop .inv .0) (c .before .before .before .before .before .before .before .loop-test .taken) (c .before .before .before .before .before .value .ensures) (c .before .f .given .1)
+elements-returns-3 t c = planned-done (c .before .before .before .before .before .before .before .before .before .before .before .before .before .before .before .before .before .pre .1 .0) (c .before .before .before .before .before .before .plan-of .ensures) (c .before .before .before .before .if3 .taken) (c .before .before .before .before .before .before .before .number-at .ensures) _ _ _ _ _ _ _ _ (c .before .before .before .before .before .before .before .before .before .before .before .before .before .before .before .before .before .pre .1 .1) (c .before .before .planned .ensures)
+
+elements-loop-holds : (t : ℕ) → elements-lts.Need-loop-holds (elements-calls t) (elements-at t) elements.Post elements-Inv-loop elements-μ-loop
+elements-loop-holds t c = (run-start 0 _ _ refl (c .before .before .before .before .before .before .before .before .before .before .before .before .before .pre .1 .1), search needs)
+
+elements-value-requires : (t : ℕ) → elements-lts.Need-value-requires (elements-calls t) (elements-at t) elements.Post elements-Inv-loop elements-μ-loop
+elements-value-requires t c κs = (omega (arith, c .before .before .before .before .before .before .before .before .before .before .before .before .before .before .before .before .pre .0), (search needs, run-asks (c .before .before .loop .inv .0) (c .before .loop-test .taken)))
+
+elements-returns-4 : (t : ℕ) → elements-lts.Need-returns-4 (elements-calls t) (elements-at t) elements.Post elements-Inv-loop elements-μ-loop
+elements-returns-4 t c = run-stopped (c .before .before .before .before .before .before .before .before .loop .inv .0) (c .before .before .before .before .before .before .before .loop-test .taken) (c .before .before .before .before .before .value .ensures) (c .before .f .given .1)
 
 elements-loop-again : (t : ℕ) → elements-lts.Need-loop-again (elements-calls t) (elements-at t) elements.Post elements-Inv-loop elements-μ-loop
 elements-loop-again t c =
-    let r = c .before .before .before .before .before .before .before .before .before .before .before .before .before .before .before .before .before .before .before .before .pre .1 .0 in
+    let r = c .before .before .before .before .before .before .before .before .before .before .before .before .before .before .before .before .before .before .before .before .before .before .pre .1 .0 in
     (run-next (c .before .before .before .before .before .before .before .before .loop .inv .0) (c .before .before .before .before .before .before .before .loop-test .taken) (c .before .before .before .before .before .value .ensures) (row-size r _ (r .in-use) (c .before .before .before .before .before .before .before .before .before .before .before .before .number-at .ensures)) (c .before .e .given .1), search needs)
 
-elements-returns-4 : (t : ℕ) → elements-lts.Need-returns-4 (elements-calls t) (elements-at t) elements.Post elements-Inv-loop elements-μ-loop
-elements-returns-4 t c = run-end (c .before .loop .inv .0) (c .loop-test .left)
+elements-returns-5 : (t : ℕ) → elements-lts.Need-returns-5 (elements-calls t) (elements-at t) elements.Post elements-Inv-loop elements-μ-loop
+elements-returns-5 t c = run-end (c .before .loop .inv .0) (c .loop-test .left)
 
 -- ---- envelopes: a table's envelopes
 
@@ -568,16 +585,16 @@ abbrev envelopes-calls : ℕ → envelopes-lts.Claims
 envelopes-calls t = (a-at-reads.Asked, a-at-reads.Learnt, b-at-reads.Asked, b-at-reads.Learnt, refused-reads.Asked, refused-reads.Learnt, value-at-reads.Asked, value-at-reads.Learnt, took-reads.Asked, took-reads.Learnt, store64-reads.Asked, store64-reads.Learnt, ordinal-of-reads.Asked, ordinal-of-reads.Learnt, content-below t, content.Post)
 
 abbrev envelopes-Inv-loop : envelopes-lts.InvT-loop
-envelopes-Inv-loop rows members sizes alignments values out₀ base depth row count first known d₀ i₀ out d i =
-    EnvelopesLeft (typeTable rows members) values base depth row count out₀ out d₀ d i × (i ≤ count) × (length out ≡ length out₀)
+envelopes-Inv-loop rows members entries sizes alignments values out₀ base depth row count first known d₀ i₀ out d i =
+    EnvelopesLeft (typeTable rows members entries) values base depth row count out₀ out d₀ d i × (i ≤ count) × (length out ≡ length out₀)
 
 abbrev envelopes-μ-loop : envelopes-lts.MeasureT-loop
-envelopes-μ-loop rows members sizes alignments values out₀ base depth row count first known d₀ i₀ out d i =
+envelopes-μ-loop rows members entries sizes alignments values out₀ base depth row count first known d₀ i₀ out d i =
     count - i
 
 envelopes-loop-holds : (t : ℕ) → envelopes-lts.Need-loop-holds (envelopes-calls t) (envelopes-at t) envelopes.Post envelopes-Inv-loop envelopes-μ-loop
 envelopes-loop-holds t c =
-    let start = c .before .before .before .before .before .before in
+    let start = c .before .before .before .before .before .before .before in
     (envelopes-start _ _ _ _ _ _ _ _ (start .pre .1 .2), search needs, search needs)
 
 envelopes-returns : (t : ℕ) → envelopes-lts.Need-returns (envelopes-calls t) (envelopes-at t) envelopes.Post envelopes-Inv-loop envelopes-μ-loop
@@ -619,7 +636,7 @@ envelopes-content-requires t c κs =
     let at-loop = at-loop-test .before in
     let at-number-at2 = at-loop .before in
     let at-number-at = at-number-at2 .before in
-    let start = at-number-at .before .before .before .before .before in
+    let start = at-number-at .before .before .before .before .before .before in
     let m = table-members (start .pre .1 .0) refl (at-number-at .a-at .ensures) (at-number-at2 .b-at .ensures) (start .pre .1 .1) in let a = content-asks _ _ _ _ _ _ _ _ (at-loop .loop .inv .0) (at-loop-test .loop-test .taken) (omega (arith, at-if1 .if1 .left)) (at-value-at .value-at .ensures) (at-if2 .if2 .left) (at-took .took .ensures) in (omega (arith, start .pre .0), (content-ready _ (start .pre .1 .0) (ordinal-fits m _ (at-ordinal-of .ordinal-of .result) (ordinal-content m _ (at-ordinal-of .ordinal-of .result) (at-ordinal-of .ordinal-of .ensures))), a .0, a .1))
 
 envelopes-loop-again-2 : (t : ℕ) → envelopes-lts.Need-loop-again-2 (envelopes-calls t) (envelopes-at t) envelopes.Post envelopes-Inv-loop envelopes-μ-loop
@@ -636,7 +653,7 @@ envelopes-loop-again-2 t c =
     let at-loop = at-loop-test .before in
     let at-number-at2 = at-loop .before in
     let at-number-at = at-number-at2 .before in
-    let start = at-number-at .before .before .before .before .before in
+    let start = at-number-at .before .before .before .before .before .before in
     let m = table-members (start .pre .1 .0) refl (at-number-at .a-at .ensures) (at-number-at2 .b-at .ensures) (start .pre .1 .1) in (one-present _ _ _ _ _ _ _ _ (at-loop .loop .inv .0) (at-loop-test .loop-test .taken) (omega (arith, at-if1 .if1 .left)) (at-value-at .value-at .ensures) (at-if2 .if2 .left) (at-took .took .ensures) (at-ordinal-of .ordinal-of .result) (at-if3 .if3 .left) (at-number-at .a-at .ensures) (at-number-at2 .b-at .ensures) (ordinal-content m _ (at-ordinal-of .ordinal-of .result) (at-ordinal-of .ordinal-of .ensures)) (at-content .content .ensures) (at-f .f .given .1), omega (arith, at-loop-test .loop-test .taken), wrote-length (rw (at-f .f .given .1) at (at-content .content .ensures)) ∙ at-loop .loop .inv .2)
 
 envelopes-returns-3 : (t : ℕ) → envelopes-lts.Need-returns-3 (envelopes-calls t) (envelopes-at t) envelopes.Post envelopes-Inv-loop envelopes-μ-loop
@@ -653,7 +670,7 @@ envelopes-returns-3 t c =
     let at-loop = at-loop-test .before in
     let at-number-at2 = at-loop .before in
     let at-number-at = at-number-at2 .before in
-    let start = at-number-at .before .before .before .before .before in
+    let start = at-number-at .before .before .before .before .before .before in
     let m = table-members (start .pre .1 .0) refl (at-number-at .a-at .ensures) (at-number-at2 .b-at .ensures) (start .pre .1 .1) in one-refused _ _ _ _ _ _ _ _ (at-loop .loop .inv .0) (at-loop-test .loop-test .taken) (omega (arith, at-if1 .if1 .left)) (at-value-at .value-at .ensures) (at-if2 .if2 .left) (at-took .took .ensures) (at-ordinal-of .ordinal-of .result) (at-if3 .if3 .left) (at-number-at .a-at .ensures) (at-number-at2 .b-at .ensures) (ordinal-content m _ (at-ordinal-of .ordinal-of .result) (at-ordinal-of .ordinal-of .ensures)) (at-content .content .ensures) (at-f2 .f2 .given .1)
 
 envelopes-returns-4 : (t : ℕ) → envelopes-lts.Need-returns-4 (envelopes-calls t) (envelopes-at t) envelopes.Post envelopes-Inv-loop envelopes-μ-loop
@@ -666,24 +683,24 @@ object-calls t = (rest-from-reads.Asked, rest-from-reads.Learnt, elements-below 
 
 object-rest-from-requires : (t : ℕ) → object-lts.Need-rest-from-requires (object-calls t) (object-at t) object.Post
 object-rest-from-requires t c κs =
-    let start = c .before .before .before .before in
+    let start = c .before .before .before .before .before in
     start .pre .1 .1 .within
 
 object-elements-requires : (t : ℕ) → object-lts.Need-elements-requires (object-calls t) (object-at t) object.Post
 object-elements-requires t c κs =
-    let start = c .before .before .before .before .before .before .before in
+    let start = c .before .before .before .before .before .before .before .before in
     (omega (arith, start .pre .0), (start .pre .1 .0, object-asks _ _ _ (start .pre .1 .1)))
 
 object-mul-fill-up : (t : ℕ) → object-lts.Need-mul-fill-up (object-calls t) (object-at t) object.Post
 object-mul-fill-up t c =
     let at-number-at = c .before in
-    let start = at-number-at .before .before .before .before .before .before .before .before .before .before .before .before in
+    let start = at-number-at .before .before .before .before .before .before .before .before .before .before .before .before .before in
     record { fits = omega (arith, object-counted _ _ (start .pre .1 .1) (ap (λ (size : ℕ). start .args .x .count * size) (row-size (start .pre .1 .0) _ (start .pre .1 .0 .in-use) (at-number-at .number-at .ensures)))) }
 
 object-fill-up-requires : (t : ℕ) → object-lts.Need-fill-up-requires (object-calls t) (object-at t) object.Post
 object-fill-up-requires t c κs =
     let at-number-at = c .before in
-    let start = at-number-at .before .before .before .before .before .before .before .before .before .before .before .before in
+    let start = at-number-at .before .before .before .before .before .before .before .before .before .before .before .before .before in
     object-counted _ _ (start .pre .1 .1) (ap (λ (size : ℕ). start .args .x .count * size) (row-size (start .pre .1 .0) _ (start .pre .1 .0 .in-use) (at-number-at .number-at .ensures)))
 
 object-returns : (t : ℕ) → object-lts.Need-returns (object-calls t) (object-at t) object.Post
@@ -692,8 +709,8 @@ object-returns t c =
     let at-number-at = at-fill-up .before .before in
     let at-elements = at-number-at .before .before .before .before in
     let at-rest-from = at-elements .before .before .before in
-    let start = at-rest-from .before .before .before .before .before in
-    object-written _ (start .args .out .now) _ _ _ _ (writeElements (typeTable (start .args .rows .now) (start .args .members .now)) (start .args .depth) (start .args .row) (start .args .x .count)) (start .pre .1 .1) (at-elements .elements .ensures) (at-rest-from .rest-from .ensures) (ap (λ (size : ℕ). start .args .x .count * size) (row-size (start .pre .1 .0) _ (start .pre .1 .0 .in-use) (at-number-at .number-at .ensures))) (at-fill-up .fill-up .ensures) refl
+    let start = at-rest-from .before .before .before .before .before .before in
+    object-written _ (start .args .out .now) _ _ _ _ (writeElements (typeTable (start .args .rows .now) (start .args .members .now) (start .args .entries .now)) (start .args .depth) (start .args .row) (start .args .x .count)) (start .pre .1 .1) (at-elements .elements .ensures) (at-rest-from .rest-from .ensures) (ap (λ (size : ℕ). start .args .x .count * size) (row-size (start .pre .1 .0) _ (start .pre .1 .0 .in-use) (at-number-at .number-at .ensures))) (at-fill-up .fill-up .ensures) refl
 
 -- ---- out_of_line: vector, box, table and union
 
@@ -706,7 +723,7 @@ out-of-line-vector-opened-requires t c κs =
     let at-if1 = at-number-at5 .before .before in
     let at-number-at2 = at-if1 .before .before .before in
     let at-number-at = at-number-at2 .before in
-    let start = at-number-at .before .before .before .before .before in
+    let start = at-number-at .before .before .before .before .before .before in
     let a = vector-record _ _ (at-number-at .kind-at .ensures) (start .pre .1 .2) (at-if1 .if1 .taken) in (ask-stands a, omega (arith, a .inside, a .free), size-small (start .pre .1 .0) _ (vector-in-use (start .pre .1 .0) (at-number-at .kind-at .ensures) (at-number-at2 .a-at .ensures) (at-if1 .if1 .taken)) (at-number-at5 .number-at .ensures))
 
 out-of-line-sub-object : (t : ℕ) → out-of-line-lts.Need-sub-object (out-of-line-calls t) (out-of-line-at t) out-of-line.Post
@@ -725,7 +742,7 @@ out-of-line-object-requires t c κs =
     let at-number-at3 = at-number-at4 .before in
     let at-number-at2 = at-number-at3 .before in
     let at-number-at = at-number-at2 .before in
-    let start = at-number-at .before .before .before .before .before in
+    let start = at-number-at .before .before .before .before .before .before in
     let l = level-left _ _ (at-vector-opened .vector-opened .ensures .1) (at-x .x .given .1) in let used = vector-in-use (start .pre .1 .0) (at-number-at .kind-at .ensures) (at-number-at2 .a-at .ensures) (at-if1 .if1 .taken) in let k = vector-claimed _ _ _ _ _ _ _ _ _ _ (at-number-at .kind-at .ensures) (start .pre .1 .2) (at-if1 .if1 .taken) (at-number-at2 .a-at .ensures) (at-number-at3 .b-at .ensures) (at-number-at4 .c-at .ensures) (start .pre .1 .0) (at-number-at5 .number-at .ensures) (at-vector-opened .vector-opened .ensures .0) (at-x .x .given .1) in let few = few-elements (start .pre .1 .0) _ used _ (object-few _ _ k) in (omega (arith, start .pre .0, l, few, row-in-use (start .pre .1 .0) _ used), (ready-at (start .pre .1 .0) _ _ (omega arith) used, k))
 
 out-of-line-returns : (t : ℕ) → out-of-line-lts.Need-returns (out-of-line-calls t) (out-of-line-at t) out-of-line.Post
@@ -738,7 +755,7 @@ out-of-line-returns t c =
     let at-number-at3 = at-number-at4 .before in
     let at-number-at2 = at-number-at3 .before in
     let at-number-at = at-number-at2 .before in
-    let start = at-number-at .before .before .before .before .before in
+    let start = at-number-at .before .before .before .before .before .before in
     vector-closed _ _ _ _ _ _ _ _ _ _ (at-number-at .kind-at .ensures) (start .pre .1 .2) (at-if1 .if1 .taken) (at-number-at2 .a-at .ensures) (at-number-at3 .b-at .ensures) (at-number-at4 .c-at .ensures) (start .pre .1 .0) (at-number-at5 .number-at .ensures) (at-vector-opened .vector-opened .ensures .0) (at-d .d .given .1)
 
 out-of-line-returns-2 : (t : ℕ) → out-of-line-lts.Need-returns-2 (out-of-line-calls t) (out-of-line-at t) out-of-line.Post
@@ -751,7 +768,7 @@ out-of-line-returns-2 t c =
     let at-number-at3 = at-number-at4 .before in
     let at-number-at2 = at-number-at3 .before in
     let at-number-at = at-number-at2 .before in
-    let start = at-number-at .before .before .before .before .before in
+    let start = at-number-at .before .before .before .before .before .before in
     vector-refused _ _ _ _ _ _ _ _ _ _ (at-number-at .kind-at .ensures) (start .pre .1 .2) (at-if1 .if1 .taken) (at-number-at2 .a-at .ensures) (at-number-at3 .b-at .ensures) (at-number-at4 .c-at .ensures) (start .pre .1 .0) (at-number-at5 .number-at .ensures) (at-vector-opened .vector-opened .ensures .0) (at-f .f .given .1)
 
 out-of-line-returns-3 : (t : ℕ) → out-of-line-lts.Need-returns-3 (out-of-line-calls t) (out-of-line-at t) out-of-line.Post
@@ -765,7 +782,7 @@ out-of-line-returns-3 t c =
     let at-number-at3 = at-number-at4 .before in
     let at-number-at2 = at-number-at3 .before in
     let at-number-at = at-number-at2 .before in
-    let start = at-number-at .before .before .before .before .before in
+    let start = at-number-at .before .before .before .before .before .before in
     rw (c .passed-on .ensures) (vector-done _ _ _ _ _ _ _ _ _ _ (at-number-at .kind-at .ensures) (start .pre .1 .2) (at-if1 .if1 .taken) (at-number-at2 .a-at .ensures) (at-number-at3 .b-at .ensures) (at-number-at4 .c-at .ensures) (start .pre .1 .0) (at-number-at5 .number-at .ensures) (at-vector-opened .vector-opened .ensures .0) (at-x .x .given .1) (at-object .object .ensures))
 
 out-of-line-box-opened-requires : (t : ℕ) → out-of-line-lts.Need-box-opened-requires (out-of-line-calls t) (out-of-line-at t) out-of-line.Post
@@ -774,7 +791,7 @@ out-of-line-box-opened-requires t c κs =
     let at-if2 = at-number-at6 .before .before in
     let at-number-at2 = at-if2 .before .before .before .before in
     let at-number-at = at-number-at2 .before in
-    let start = at-number-at .before .before .before .before .before in
+    let start = at-number-at .before .before .before .before .before .before in
     let a = box-record _ _ (at-number-at .kind-at .ensures) (start .pre .1 .2) (at-if2 .if2 .taken) in (ask-stands a, omega (arith, a .inside, a .free), size-small (start .pre .1 .0) _ (box-in-use (start .pre .1 .0) (at-number-at .kind-at .ensures) (at-number-at2 .a-at .ensures) (at-if2 .if2 .taken)) (at-number-at6 .number-at2 .ensures))
 
 out-of-line-sub-single : (t : ℕ) → out-of-line-lts.Need-sub-single (out-of-line-calls t) (out-of-line-at t) out-of-line.Post
@@ -791,7 +808,7 @@ out-of-line-single-requires t c κs =
     let at-if2 = at-number-at6 .before .before in
     let at-number-at2 = at-if2 .before .before .before .before in
     let at-number-at = at-number-at2 .before in
-    let start = at-number-at .before .before .before .before .before in
+    let start = at-number-at .before .before .before .before .before .before in
     let l = level-left _ _ (at-box-opened .box-opened .ensures .1) (at-x2 .x2 .given .1) in let used = box-in-use (start .pre .1 .0) (at-number-at .kind-at .ensures) (at-number-at2 .a-at .ensures) (at-if2 .if2 .taken) in let k = box-claimed _ _ _ _ _ _ _ _ _ _ (at-number-at .kind-at .ensures) (start .pre .1 .2) (at-if2 .if2 .taken) (at-number-at2 .a-at .ensures) (start .pre .1 .0) (at-number-at6 .number-at2 .ensures) (at-box-opened .box-opened .ensures .0) (at-x2 .x2 .given .1) in (omega (arith, start .pre .0, l, row-in-use (start .pre .1 .0) _ used), (ready-at (start .pre .1 .0) _ _ (omega arith) used, k))
 
 out-of-line-returns-4 : (t : ℕ) → out-of-line-lts.Need-returns-4 (out-of-line-calls t) (out-of-line-at t) out-of-line.Post
@@ -802,7 +819,7 @@ out-of-line-returns-4 t c =
     let at-if2 = at-number-at6 .before .before in
     let at-number-at2 = at-if2 .before .before .before .before in
     let at-number-at = at-number-at2 .before in
-    let start = at-number-at .before .before .before .before .before in
+    let start = at-number-at .before .before .before .before .before .before in
     box-absent _ _ _ _ _ _ _ _ _ _ (at-number-at .kind-at .ensures) (start .pre .1 .2) (at-if2 .if2 .taken) (at-number-at2 .a-at .ensures) (start .pre .1 .0) (at-number-at6 .number-at2 .ensures) (at-box-opened .box-opened .ensures .0) (at-d2 .d2 .given .1)
 
 out-of-line-returns-5 : (t : ℕ) → out-of-line-lts.Need-returns-5 (out-of-line-calls t) (out-of-line-at t) out-of-line.Post
@@ -813,7 +830,7 @@ out-of-line-returns-5 t c =
     let at-if2 = at-number-at6 .before .before in
     let at-number-at2 = at-if2 .before .before .before .before in
     let at-number-at = at-number-at2 .before in
-    let start = at-number-at .before .before .before .before .before in
+    let start = at-number-at .before .before .before .before .before .before in
     box-refused _ _ _ _ _ _ _ _ _ _ (at-number-at .kind-at .ensures) (start .pre .1 .2) (at-if2 .if2 .taken) (at-number-at2 .a-at .ensures) (start .pre .1 .0) (at-number-at6 .number-at2 .ensures) (at-box-opened .box-opened .ensures .0) (at-f2 .f2 .given .1)
 
 out-of-line-returns-6 : (t : ℕ) → out-of-line-lts.Need-returns-6 (out-of-line-calls t) (out-of-line-at t) out-of-line.Post
@@ -825,14 +842,14 @@ out-of-line-returns-6 t c =
     let at-if2 = at-number-at6 .before .before in
     let at-number-at2 = at-if2 .before .before .before .before in
     let at-number-at = at-number-at2 .before in
-    let start = at-number-at .before .before .before .before .before in
+    let start = at-number-at .before .before .before .before .before .before in
     rw (c .passed-on2 .ensures) (box-done _ _ _ _ _ _ _ _ _ _ (at-number-at .kind-at .ensures) (start .pre .1 .2) (at-if2 .if2 .taken) (at-number-at2 .a-at .ensures) (start .pre .1 .0) (at-number-at6 .number-at2 .ensures) (at-box-opened .box-opened .ensures .0) (at-x2 .x2 .given .1) (at-single .single .ensures))
 
 out-of-line-table-opened-requires : (t : ℕ) → out-of-line-lts.Need-table-opened-requires (out-of-line-calls t) (out-of-line-at t) out-of-line.Post
 out-of-line-table-opened-requires t c κs =
     let at-if3 = c .before in
     let at-number-at = at-if3 .before .before .before .before .before .before in
-    let start = at-number-at .before .before .before .before .before in
+    let start = at-number-at .before .before .before .before .before .before in
     let a = table-record _ _ (at-number-at .kind-at .ensures) (start .pre .1 .2) (at-if3 .if3 .taken) in (ask-stands a, omega (arith, a .inside, a .free))
 
 out-of-line-rest-from-requires : (t : ℕ) → out-of-line-lts.Need-rest-from-requires (out-of-line-calls t) (out-of-line-at t) out-of-line.Post
@@ -841,7 +858,7 @@ out-of-line-rest-from-requires t c κs =
     let at-table-opened = at-x3 .before .before .before .before in
     let at-if3 = at-table-opened .before .before in
     let at-number-at = at-if3 .before .before .before .before .before .before in
-    let start = at-number-at .before .before .before .before .before in
+    let start = at-number-at .before .before .before .before .before .before in
     table-claimed _ _ _ _ _ _ _ _ _ _ (at-number-at .kind-at .ensures) (start .pre .1 .2) (at-if3 .if3 .taken) (start .pre .1 .0) (at-table-opened .table-opened .ensures .0) (at-x3 .x3 .given .1) .within
 
 out-of-line-sub-envelopes-2 : (t : ℕ) → out-of-line-lts.Need-sub-envelopes-2 (out-of-line-calls t) (out-of-line-at t) out-of-line.Post
@@ -856,7 +873,7 @@ out-of-line-envelopes-requires t c κs =
     let at-table-opened = at-x3 .before .before .before .before in
     let at-if3 = at-table-opened .before .before in
     let at-number-at = at-if3 .before .before .before .before .before .before in
-    let start = at-number-at .before .before .before .before .before in
+    let start = at-number-at .before .before .before .before .before .before in
     let l = level-left _ _ (at-table-opened .table-opened .ensures .1) (at-x3 .x3 .given .1) in let k = table-claimed _ _ _ _ _ _ _ _ _ _ (at-number-at .kind-at .ensures) (start .pre .1 .2) (at-if3 .if3 .taken) (start .pre .1 .0) (at-table-opened .table-opened .ensures .0) (at-x3 .x3 .given .1) in (omega (arith, start .pre .0, l, object-few _ _ k), (ready-at (start .pre .1 .0) _ _ (omega arith) (start .pre .1 .0 .in-use), sym (at-number-at .kind-at .ensures) ∙ at-if3 .if3 .taken, object-asks _ _ _ k))
 
 out-of-line-returns-7 : (t : ℕ) → out-of-line-lts.Need-returns-7 (out-of-line-calls t) (out-of-line-at t) out-of-line.Post
@@ -865,7 +882,7 @@ out-of-line-returns-7 t c =
     let at-table-opened = at-d3 .before .before .before .before in
     let at-if3 = at-table-opened .before .before in
     let at-number-at = at-if3 .before .before .before .before .before .before in
-    let start = at-number-at .before .before .before .before .before in
+    let start = at-number-at .before .before .before .before .before .before in
     table-closed _ _ _ _ _ _ _ _ _ _ (at-number-at .kind-at .ensures) (start .pre .1 .2) (at-if3 .if3 .taken) (start .pre .1 .0) (at-table-opened .table-opened .ensures .0) (at-d3 .d3 .given .1)
 
 out-of-line-returns-8 : (t : ℕ) → out-of-line-lts.Need-returns-8 (out-of-line-calls t) (out-of-line-at t) out-of-line.Post
@@ -874,7 +891,7 @@ out-of-line-returns-8 t c =
     let at-table-opened = at-f3 .before .before .before .before in
     let at-if3 = at-table-opened .before .before in
     let at-number-at = at-if3 .before .before .before .before .before .before in
-    let start = at-number-at .before .before .before .before .before in
+    let start = at-number-at .before .before .before .before .before .before in
     table-refused _ _ _ _ _ _ _ _ _ _ (at-number-at .kind-at .ensures) (start .pre .1 .2) (at-if3 .if3 .taken) (start .pre .1 .0) (at-table-opened .table-opened .ensures .0) (at-f3 .f3 .given .1)
 
 out-of-line-returns-9 : (t : ℕ) → out-of-line-lts.Need-returns-9 (out-of-line-calls t) (out-of-line-at t) out-of-line.Post
@@ -885,7 +902,7 @@ out-of-line-returns-9 t c =
     let at-table-opened = at-x3 .before .before .before .before in
     let at-if3 = at-table-opened .before .before in
     let at-number-at = at-if3 .before .before .before .before .before .before in
-    let start = at-number-at .before .before .before .before .before in
+    let start = at-number-at .before .before .before .before .before .before in
     rw (c .passed-on3 .ensures) (table-done _ _ _ _ _ _ _ _ _ _ (at-number-at .kind-at .ensures) (start .pre .1 .2) (at-if3 .if3 .taken) (start .pre .1 .0) (at-table-opened .table-opened .ensures .0) (at-x3 .x3 .given .1) _ (at-rest-from .rest-from .ensures) (at-envelopes .envelopes .ensures))
 
 out-of-line-union-member-requires : (t : ℕ) → out-of-line-lts.Need-union-member-requires (out-of-line-calls t) (out-of-line-at t) out-of-line.Post
@@ -897,12 +914,12 @@ out-of-line-union-member-requires t c κs =
     let at-number-at3 = at-number-at4 .before in
     let at-number-at2 = at-number-at3 .before in
     let at-number-at = at-number-at2 .before in
-    let start = at-number-at .before .before .before .before .before in
+    let start = at-number-at .before .before .before .before .before .before in
     let q = union-else (start .pre .1 .0) (at-number-at .kind-at .ensures) (start .pre .1 .1) (at-if1 .if1 .left) (at-if2 .if2 .left) (at-if3 .if3 .left) in let a = union-record _ _ (at-number-at .kind-at .ensures) (start .pre .1 .2) (start .pre .1 .0 .edition) q in let m = union-members (start .pre .1 .0) (at-number-at .kind-at .ensures) (at-number-at2 .a-at .ensures) (at-number-at3 .b-at .ensures) q in (ask-stands a, omega (arith, a .inside, a .free), omega (arith, at-number-at4 .c-at .ensures, m .1), m .0 .exist, members-rise (m .0))
 
 out-of-line-add-content : (t : ℕ) → out-of-line-lts.Need-add-content (out-of-line-calls t) (out-of-line-at t) out-of-line.Post
 out-of-line-add-content t c =
-    let start = c .before .before .before .before .before .before .before .before .before .before .before .before .before .before .before .before .before .before .before in
+    let start = c .before .before .before .before .before .before .before .before .before .before .before .before .before .before .before .before .before .before .before .before in
     record { fits = omega (arith, start .pre .1 .2 .inside, start .pre .1 .2 .free) }
 
 out-of-line-content-requires : (t : ℕ) → out-of-line-lts.Need-content-requires (out-of-line-calls t) (out-of-line-at t) out-of-line.Post
@@ -916,7 +933,7 @@ out-of-line-content-requires t c κs =
     let at-number-at3 = at-number-at4 .before in
     let at-number-at2 = at-number-at3 .before in
     let at-number-at = at-number-at2 .before in
-    let start = at-number-at .before .before .before .before .before in
+    let start = at-number-at .before .before .before .before .before .before in
     let q = union-else (start .pre .1 .0) (at-number-at .kind-at .ensures) (start .pre .1 .1) (at-if1 .if1 .left) (at-if2 .if2 .left) (at-if3 .if3 .left) in let m = union-members (start .pre .1 .0) (at-number-at .kind-at .ensures) (at-number-at2 .a-at .ensures) (at-number-at3 .b-at .ensures) q in let a = union-asks _ _ _ _ _ (start .args .depth) _ _ _ _ (at-number-at .kind-at .ensures) (at-number-at2 .a-at .ensures) (at-number-at3 .b-at .ensures) (at-number-at4 .c-at .ensures) q (start .pre .1 .0) (start .pre .1 .2) (at-union-member .union-member .ensures .0) (at-what .what .given .1) in (omega (arith, start .pre .0), (content-ready _ (start .pre .1 .0) (union-fits _ _ _ _ (start .args .base) (start .args .depth) _ _ _ _ (at-number-at .kind-at .ensures) (at-number-at2 .a-at .ensures) (at-number-at3 .b-at .ensures) (at-number-at4 .c-at .ensures) q (start .pre .1 .0) (start .pre .1 .2) (at-union-member .union-member .ensures .0) (at-what .what .given .1) (m .0) (at-union-member .union-member .ensures .1)), a .0, a .1))
 
 out-of-line-returns-10 : (t : ℕ) → out-of-line-lts.Need-returns-10 (out-of-line-calls t) (out-of-line-at t) out-of-line.Post
@@ -930,7 +947,7 @@ out-of-line-returns-10 t c =
     let at-number-at3 = at-number-at4 .before in
     let at-number-at2 = at-number-at3 .before in
     let at-number-at = at-number-at2 .before in
-    let start = at-number-at .before .before .before .before .before in
+    let start = at-number-at .before .before .before .before .before .before in
     let q = union-else (start .pre .1 .0) (at-number-at .kind-at .ensures) (start .pre .1 .1) (at-if1 .if1 .left) (at-if2 .if2 .left) (at-if3 .if3 .left) in union-none _ _ _ _ _ _ _ _ _ _ (at-number-at .kind-at .ensures) (at-number-at2 .a-at .ensures) (at-number-at3 .b-at .ensures) (at-number-at4 .c-at .ensures) q (start .pre .1 .0) (start .pre .1 .2) (at-union-member .union-member .ensures .0) (at-d4 .d4 .given .1)
 
 out-of-line-returns-11 : (t : ℕ) → out-of-line-lts.Need-returns-11 (out-of-line-calls t) (out-of-line-at t) out-of-line.Post
@@ -944,7 +961,7 @@ out-of-line-returns-11 t c =
     let at-number-at3 = at-number-at4 .before in
     let at-number-at2 = at-number-at3 .before in
     let at-number-at = at-number-at2 .before in
-    let start = at-number-at .before .before .before .before .before in
+    let start = at-number-at .before .before .before .before .before .before in
     let q = union-else (start .pre .1 .0) (at-number-at .kind-at .ensures) (start .pre .1 .1) (at-if1 .if1 .left) (at-if2 .if2 .left) (at-if3 .if3 .left) in union-bad _ _ _ _ _ _ _ _ _ _ (at-number-at .kind-at .ensures) (at-number-at2 .a-at .ensures) (at-number-at3 .b-at .ensures) (at-number-at4 .c-at .ensures) q (start .pre .1 .0) (start .pre .1 .2) (at-union-member .union-member .ensures .0) (at-f4 .f4 .given .1)
 
 out-of-line-returns-12 : (t : ℕ) → out-of-line-lts.Need-returns-12 (out-of-line-calls t) (out-of-line-at t) out-of-line.Post
@@ -959,7 +976,7 @@ out-of-line-returns-12 t c =
     let at-number-at3 = at-number-at4 .before in
     let at-number-at2 = at-number-at3 .before in
     let at-number-at = at-number-at2 .before in
-    let start = at-number-at .before .before .before .before .before in
+    let start = at-number-at .before .before .before .before .before .before in
     let q = union-else (start .pre .1 .0) (at-number-at .kind-at .ensures) (start .pre .1 .1) (at-if1 .if1 .left) (at-if2 .if2 .left) (at-if3 .if3 .left) in rw (c .passed-on4 .ensures) (union-done _ _ _ _ _ _ _ _ _ _ (at-number-at .kind-at .ensures) (at-number-at2 .a-at .ensures) (at-number-at3 .b-at .ensures) (at-number-at4 .c-at .ensures) q (start .pre .1 .0) (start .pre .1 .2) (at-union-member .union-member .ensures .0) (at-what .what .given .1) (at-content .content .ensures))
 
 -- ---- single: a claimed object of one value
@@ -969,17 +986,17 @@ single-calls t = (rest-from-reads.Asked, rest-from-reads.Learnt, value-below t, 
 
 single-rest-from-requires : (t : ℕ) → single-lts.Need-rest-from-requires (single-calls t) (single-at t) single.Post
 single-rest-from-requires t c κs =
-    let start = c .before .before .before .before in
+    let start = c .before .before .before .before .before in
     start .pre .1 .1 .within
 
 single-value-requires : (t : ℕ) → single-lts.Need-value-requires (single-calls t) (single-at t) single.Post
 single-value-requires t c κs =
-    let start = c .before .before .before .before .before .before .before in
+    let start = c .before .before .before .before .before .before .before .before in
     (omega (arith, start .pre .0), (start .pre .1 .0, object-asks _ _ _ (start .pre .1 .1)))
 
 single-fill-up-requires : (t : ℕ) → single-lts.Need-fill-up-requires (single-calls t) (single-at t) single.Post
 single-fill-up-requires t c κs =
-    let start = c .before .before .before .before .before .before .before .before .before .before .before .before in
+    let start = c .before .before .before .before .before .before .before .before .before .before .before .before .before in
     object-counted _ _ (start .pre .1 .1) (row-size (start .pre .1 .0) _ (start .pre .1 .0 .in-use) (c .number-at .ensures))
 
 single-returns : (t : ℕ) → single-lts.Need-returns (single-calls t) (single-at t) single.Post
@@ -988,13 +1005,13 @@ single-returns t c =
     let at-number-at = at-fill-up .before in
     let at-value = at-number-at .before .before .before .before in
     let at-rest-from = at-value .before .before .before in
-    let start = at-rest-from .before .before .before .before .before in
-    object-written _ (start .args .out .now) _ _ _ _ (writeRow (typeTable (start .args .rows .now) (start .args .members .now)) (start .args .depth) (start .args .row)) (start .pre .1 .1) (at-value .value .ensures) (at-rest-from .rest-from .ensures) (row-size (start .pre .1 .0) _ (start .pre .1 .0 .in-use) (at-number-at .number-at .ensures)) (at-fill-up .fill-up .ensures) (c .passed-on .ensures)
+    let start = at-rest-from .before .before .before .before .before .before in
+    object-written _ (start .args .out .now) _ _ _ _ (writeRow (typeTable (start .args .rows .now) (start .args .members .now) (start .args .entries .now)) (start .args .depth) (start .args .row)) (start .pre .1 .1) (at-value .value .ensures) (at-rest-from .rest-from .ensures) (row-size (start .pre .1 .0) _ (start .pre .1 .0 .in-use) (at-number-at .number-at .ensures)) (at-fill-up .fill-up .ensures) (c .passed-on .ensures)
 
 -- ---- value: a value of any kind
 
 abbrev value-calls : ℕ → value-lts.Claims
-value-calls t = (kind-at-reads.Asked, kind-at-reads.Learnt, a-at-reads.Asked, a-at-reads.Learnt, boolean-reads.Asked, boolean-reads.Learnt, number-reads.Asked, number-reads.Learnt, handle-reads.Asked, handle-reads.Learnt, has-parts-reads.Asked, has-parts-reads.Learnt, composite-below t, composite.Post, put-zeros-reads.Asked, put-zeros-reads.Learnt, b-at-reads.Asked, b-at-reads.Learnt, numbers-reads.Asked, numbers-reads.Learnt, c-at-reads.Asked, c-at-reads.Learnt, string-reads.Asked, string-reads.Learnt, out-of-line-below t, out-of-line.Post)
+value-calls t = (kind-at-reads.Asked, kind-at-reads.Learnt, a-at-reads.Asked, a-at-reads.Learnt, boolean-reads.Asked, boolean-reads.Learnt, number-reads.Asked, number-reads.Learnt, handle-reads.Asked, handle-reads.Learnt, has-parts-reads.Asked, has-parts-reads.Learnt, composite-below t, composite.Post, put-zeros-reads.Asked, put-zeros-reads.Learnt, b-at-reads.Asked, b-at-reads.Learnt, numbers-reads.Asked, numbers-reads.Learnt, c-at-reads.Asked, c-at-reads.Learnt, string-reads.Asked, string-reads.Learnt, strict-values-reads.Asked, strict-values-reads.Learnt, out-of-line-below t, out-of-line.Post)
 
 value-boolean-requires : (t : ℕ) → value-lts.Need-boolean-requires (value-calls t) (value-at t) value.Post
 value-boolean-requires t c κs = search (needs, ask-stands)
@@ -1007,7 +1024,7 @@ value-number-requires t c κs =
     let at-if2 = c .before in
     let at-number-at2 = at-if2 .before .before in
     let at-number-at = at-number-at2 .before in
-    let start = at-number-at .before .before .before .before .before in
+    let start = at-number-at .before .before .before .before .before .before in
     number-ask (start .pre .1 .0) (at-number-at .kind-at .ensures) (at-if2 .if2 .taken) (at-number-at2 .a-at .ensures) (start .pre .1 .1)
 
 value-returns-2 : (t : ℕ) → value-lts.Need-returns-2 (value-calls t) (value-at t) value.Post
@@ -1023,12 +1040,12 @@ value-composite-requires : (t : ℕ) → value-lts.Need-composite-requires (valu
 value-composite-requires t c κs =
     let at-if5 = c .before in
     let at-has-parts = at-if5 .before in
-    let start = at-has-parts .before .before .before .before .before .before .before .before .before .before .before in
+    let start = at-has-parts .before .before .before .before .before .before .before .before .before .before .before .before in
     (omega (arith, start .pre .0), (start .pre .1 .0, sym (at-has-parts .has-parts .ensures) ∙ at-if5 .if5 .taken, start .pre .1 .1))
 
 value-put-zeros-requires : (t : ℕ) → value-lts.Need-put-zeros-requires (value-calls t) (value-at t) value.Post
 value-put-zeros-requires t c κs =
-    let start = c .before .before .before .before .before .before .before .before .before .before .before .before .before .before in
+    let start = c .before .before .before .before .before .before .before .before .before .before .before .before .before .before .before in
     omega (arith, start .pre .1 .1 .inside, start .pre .1 .1 .free)
 
 value-returns-5 : (t : ℕ) → value-lts.Need-returns-5 (value-calls t) (value-at t) value.Post
@@ -1044,7 +1061,7 @@ value-numbers-requires t c κs =
     let at-if4 = at-has-parts .before in
     let at-number-at2 = at-if4 .before .before .before .before in
     let at-number-at = at-number-at2 .before in
-    let start = at-number-at .before .before .before .before .before in
+    let start = at-number-at .before .before .before .before .before .before in
     array-ask (start .pre .1 .0) (at-number-at .kind-at .ensures) (at-has-parts .has-parts .ensures) (at-if5 .if5 .left) (at-if4 .if4 .taken) (at-if6 .if6 .left) (at-number-at2 .a-at .ensures) (at-number-at3 .a-at2 .ensures) (at-number-at4 .b-at .ensures) (start .pre .1 .1)
 
 value-returns-6 : (t : ℕ) → value-lts.Need-returns-6 (value-calls t) (value-at t) value.Post
@@ -1056,16 +1073,32 @@ value-string-requires t c κs = search (needs, string-ask)
 value-returns-7 : (t : ℕ) → value-lts.Need-returns-7 (value-calls t) (value-at t) value.Post
 value-returns-7 t c = search (needs, value-string)
 
+value-strict-values-requires : (t : ℕ) → value-lts.Need-strict-values-requires (value-calls t) (value-at t) value.Post
+value-strict-values-requires t c κs =
+    let at-if8 = c .before in
+    let at-kind-at = at-if8 .before .before .before .before .before .before .before in
+    let start = at-kind-at .before .before .before .before .before .before in
+    strict-ask (start .pre .1 .0) (at-kind-at .kind-at .ensures) (at-if8 .if8 .taken) (start .pre .1 .1)
+
+value-returns-8 : (t : ℕ) → value-lts.Need-returns-8 (value-calls t) (value-at t) value.Post
+value-returns-8 t c =
+    let at-strict = c .before .before in
+    let at-if8 = at-strict .before .before in
+    let at-kind-at = at-if8 .before .before .before .before .before .before .before in
+    let start = at-kind-at .before .before .before .before .before .before in
+    strict-done (start .pre .1 .0) (at-kind-at .kind-at .ensures) (at-if8 .if8 .taken) _ _ _ _ _ _ _ (start .pre .1 .1) (at-strict .strict-values .ensures)
+
 value-out-of-line-requires : (t : ℕ) → value-lts.Need-out-of-line-requires (value-calls t) (value-at t) value.Post
 value-out-of-line-requires t c κs =
-    let at-if7 = c .before in
+    let at-if8 = c .before in
+    let at-if7 = at-if8 .before in
     let at-if4 = at-if7 .before in
     let at-if3 = at-if4 .before in
     let at-if2 = at-if3 .before in
     let at-if1 = at-if2 .before in
     let at-number-at = at-if1 .before .before in
-    let start = at-number-at .before .before .before .before .before in
-    (omega (arith, start .pre .0), (start .pre .1 .0, outside-left (typeTable (start .args .rows .now) (start .args .members .now)) (start .args .row) (at-number-at .kind-at .ensures) (at-if1 .if1 .left) (at-if2 .if2 .left) (at-if3 .if3 .left) (at-if4 .if4 .left) (at-if7 .if7 .left), start .pre .1 .1))
+    let start = at-number-at .before .before .before .before .before .before in
+    (omega (arith, start .pre .0), (start .pre .1 .0, outside-left (typeTable (start .args .rows .now) (start .args .members .now) (start .args .entries .now)) (start .args .row) (at-number-at .kind-at .ensures) (at-if1 .if1 .left) (at-if2 .if2 .left) (at-if3 .if3 .left) (at-if4 .if4 .left) (at-if7 .if7 .left) (at-if8 .if8 .left), start .pre .1 .1))
 
 -- ---- all eight
 
@@ -1113,10 +1146,11 @@ pub +composite+content+elements+envelopes+object+out-of-line+single+value-spec :
     elements-Inv-loop
     elements-μ-loop
     (λ c κs. search needs) (λ c κs. search needs) (elements-numbers-requires t) (λ c. search needs) (elements-returns t)
+    (elements-strict-values-requires t) (λ c. search needs) (elements-returns-2 t)
     (λ c κs. search needs) (λ c. search needs) (λ c κs. search needs) (elements-planned-requires t) (λ c. search needs)
-    (elements-returns-2 t) (elements-loop-holds t) (elements-value-requires t) (λ c. search needs) (λ c. search needs)
-    (λ c. search needs) (elements-returns-3 t) (λ c. search needs) (λ c. search needs) (λ c. search needs)
-    (elements-loop-again t) (λ c. search needs) (elements-returns-4 t))
+    (elements-returns-3 t) (elements-loop-holds t) (elements-value-requires t) (λ c. search needs) (λ c. search needs)
+    (λ c. search needs) (elements-returns-4 t) (λ c. search needs) (λ c. search needs) (λ c. search needs)
+    (elements-loop-again t) (λ c. search needs) (elements-returns-5 t))
     (λ t. envelopes-lts.spec (envelopes-calls t)
     (envelopes-at t)
     envelopes.Post
@@ -1167,4 +1201,4 @@ pub +composite+content+elements+envelopes+object+out-of-line+single+value-spec :
     (value-put-zeros-requires t) (λ c. search needs) (value-returns-5 t) (λ c. search needs) (λ c κs. search needs)
     (λ c κs. search needs) (λ c. search needs) (value-numbers-requires t) (λ c. search needs) (value-returns-6 t)
     (λ c κs. search needs) (λ c κs. search needs) (value-string-requires t) (λ c. search needs) (value-returns-7 t)
-    (value-out-of-line-requires t) (λ c. search needs) (λ c. search needs)
+    (value-strict-values-requires t) (λ c. search needs) (value-returns-8 t) (value-out-of-line-requires t) (λ c. search needs) (λ c. search needs)

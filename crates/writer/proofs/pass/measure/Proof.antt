@@ -17,8 +17,8 @@ pass-requires c κs =
     let allowed = c .before .before .before in
     let sound = allowed .before .before in
     let prepared = sound .before .before in
-    let a = prepared .before .before .before .before .before .before .args in
-    root-ready _ _ (a .values .now) _ _ (prepared .climb .ensures .0) (sound .enum-told .given .1)
+    let a = prepared .before .before .before .before .before .before .before .args in
+    root-ready _ _ _ (a .values .now) _ _ (prepared .climb .ensures .0) (sound .enum-told .given .1)
     (allowed .before .root-allowed .ensures) (not-false _ (allowed .if1 .left)) _ _ (prepared .climb .ensures .1 .0) (prepared .climb .ensures .1 .1)
 
 returns-3 : tie.Need-returns-3

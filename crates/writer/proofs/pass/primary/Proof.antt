@@ -8,7 +8,7 @@ use Rattle.writer.proofs.pass.primary.Tie as tie
 value-requires : tie.Need-value-requires
 value-requires c κs =
     let number = c .before in
-    root-asked (number .before .before .before .before .before .before .pre) (number .number-at .ensures) _
+    root-asked (number .before .before .before .before .before .before .before .pre) (number .number-at .ensures) _
 
 fill-up-requires : tie.Need-fill-up-requires
 fill-up-requires c κs = search (needs, fill-asked)
