@@ -33,106 +33,106 @@ use Rattle.demands.proofs.round_trip.Reads as trip
 use Rattle.demands.specs.OtherPromises.{Prepares, LaysOut, AllowsRoot, ReadsHeader, HandsBody, WritesHeader, WritesEpitaph, JudgesText, JudgesPart, IsText, AreText, Lists, RoundTrips}
 
 module _ (κs : Lfts 5) (a : Dens κs prepare-kinds.ps) where
-  pub prepare-asks-nothing : prepare.Asked κs a
-  prepare-asks-nothing = tt
+  pub prepare_asks_nothing : prepare.Asked κs a
+  prepare_asks_nothing = tt
 
-  pub prepare-promises : (r : (res_t prepare-kinds.r κs).Denot) (s : AtExit (ended_of 5 prepare-kinds.ps prepare-kinds.r) κs) → prepare.Learnt κs a r s
+  pub prepare_promises : (r : (res_t prepare-kinds.r κs).Denot) (s : AtExit (ended_of 5 prepare-kinds.ps prepare-kinds.r) κs) → prepare.Learnt κs a r s
       → Prepares a.0.now a.1.0.now a.1.1.0.now a.1.1.1.0.now s.1.1.1.0.now a.1.1.1.1.0.now s.1.1.1.1.0.now r
-  prepare-promises r s l = record { answer = l.0; sizes-list = l.1.0; alignments-list = l.1.1.0; numbers = l.1.1.1 }
+  prepare_promises r s l = record { answer = l.0; sizes_list = l.1.0; alignments_list = l.1.1.0; numbers = l.1.1.1 }
 
 module _ (κs : Lfts 3) (a : Dens κs layout-kinds.ps) where
-  pub layout-of-asks-nothing : layout.Asked κs a
-  layout-of-asks-nothing = tt
+  pub layout_of_asks_nothing : layout.Asked κs a
+  layout_of_asks_nothing = tt
 
-  pub layout-of-promises : (r : (res_t layout-kinds.r κs).Denot) (s : AtExit (ended_of 3 layout-kinds.ps layout-kinds.r) κs) → layout.Learnt κs a r s
+  pub layout_of_promises : (r : (res_t layout-kinds.r κs).Denot) (s : AtExit (ended_of 3 layout-kinds.ps layout-kinds.r) κs) → layout.Learnt κs a r s
       → LaysOut a.0.now a.1.0.now a.1.1.0.now a.1.1.1.0 r
-  layout-of-promises r s l = record { answer = l.0; numbers = l.1 }
+  layout_of_promises r s l = record { answer = l.0; numbers = l.1 }
 
 module _ (κs : Lfts 1) (a : Dens κs root-kinds.ps) where
-  pub root-allowed-asks-nothing : root.Asked κs a
-  root-allowed-asks-nothing = tt
+  pub root_allowed_asks_nothing : root.Asked κs a
+  root_allowed_asks_nothing = tt
 
-  pub root-allowed-promises : (r : (res_t root-kinds.r κs).Denot) (s : AtExit (ended_of 1 root-kinds.ps root-kinds.r) κs) → root.Learnt κs a r s
+  pub root_allowed_promises : (r : (res_t root-kinds.r κs).Denot) (s : AtExit (ended_of 1 root-kinds.ps root-kinds.r) κs) → root.Learnt κs a r s
       → AllowsRoot a.0.now a.1.0 r
-  root-allowed-promises r s l = record { answer = l }
+  root_allowed_promises r s l = record { answer = l }
 
 module _ (κs : Lfts 1) (a : Dens κs header-kinds.ps) where
-  pub read-header-asks-nothing : header.Asked κs a
-  read-header-asks-nothing = tt
+  pub read_header_asks_nothing : header.Asked κs a
+  read_header_asks_nothing = tt
 
-  pub read-header-promises : (r : (res_t header-kinds.r κs).Denot) (s : AtExit (ended_of 1 header-kinds.ps header-kinds.r) κs) → header.Learnt κs a r s
+  pub read_header_promises : (r : (res_t header-kinds.r κs).Denot) (s : AtExit (ended_of 1 header-kinds.ps header-kinds.r) κs) → header.Learnt κs a r s
       → ReadsHeader a.0.now r
-  read-header-promises r s l = record { answer = l.0; numbers = l.1.0; status = l.1.1 }
+  read_header_promises r s l = record { answer = l.0; numbers = l.1.0; status = l.1.1 }
 
 module _ (κs : Lfts 1) (a : Dens κs body-kinds.ps) where
-  pub body-asks-nothing : body.Asked κs a
-  body-asks-nothing = tt
+  pub body_asks_nothing : body.Asked κs a
+  body_asks_nothing = tt
 
-  pub body-promises : (r : (res_t body-kinds.r κs).Denot) (s : AtExit (ended_of 1 body-kinds.ps body-kinds.r) κs) → body.Learnt κs a r s
+  pub body_promises : (r : (res_t body-kinds.r κs).Denot) (s : AtExit (ended_of 1 body-kinds.ps body-kinds.r) κs) → body.Learnt κs a r s
       → HandsBody a.0.now a.0.ref_ptr r.now r.ref_ptr
-  body-promises r s l = record { bytes = l.0; start = l.1 }
+  body_promises r s l = record { bytes = l.0; start = l.1 }
 
 module _ (κs : Lfts 1) (a : Dens κs write-kinds.ps) where
-  pub write-header-asks-nothing : write.Asked κs a
-  write-header-asks-nothing = tt
+  pub write_header_asks_nothing : write.Asked κs a
+  write_header_asks_nothing = tt
 
-  pub write-header-promises : (r : (res_t write-kinds.r κs).Denot) (s : AtExit (ended_of 1 write-kinds.ps write-kinds.r) κs) → write.Learnt κs a r s
+  pub write_header_promises : (r : (res_t write-kinds.r κs).Denot) (s : AtExit (ended_of 1 write-kinds.ps write-kinds.r) κs) → write.Learnt κs a r s
       → WritesHeader a.0 a.1.0.now s.1.0.now r
-  write-header-promises r s l = record { answer = l.0; output = l.1.0; numbers = l.1.1 }
+  write_header_promises r s l = record { answer = l.0; output = l.1.0; numbers = l.1.1 }
 
 module _ (κs : Lfts 1) (a : Dens κs epitaph-kinds.ps) where
-  pub write-epitaph-asks-nothing : epitaph.Asked κs a
-  write-epitaph-asks-nothing = tt
+  pub write_epitaph_asks_nothing : epitaph.Asked κs a
+  write_epitaph_asks_nothing = tt
 
-  pub write-epitaph-promises : (r : (res_t epitaph-kinds.r κs).Denot) (s : AtExit (ended_of 1 epitaph-kinds.ps epitaph-kinds.r) κs) → epitaph.Learnt κs a r s
+  pub write_epitaph_promises : (r : (res_t epitaph-kinds.r κs).Denot) (s : AtExit (ended_of 1 epitaph-kinds.ps epitaph-kinds.r) κs) → epitaph.Learnt κs a r s
       → WritesEpitaph a.0 a.1.0 a.1.1.0 a.1.1.1.0 a.1.1.1.1.0.now s.1.1.1.1.0.now r
-  write-epitaph-promises r s l = record { answer = l.0; output = l.1.0; numbers = l.1.1 }
+  write_epitaph_promises r s l = record { answer = l.0; output = l.1.0; numbers = l.1.1 }
 
 module _ (κs : Lfts 1) (a : Dens κs text-kinds.ps) where
-  pub judge-asks-nothing : text.Asked κs a
-  judge-asks-nothing = tt
+  pub judge_asks_nothing : text.Asked κs a
+  judge_asks_nothing = tt
 
-  pub judge-promises : (r : (res_t text-kinds.r κs).Denot) (s : AtExit (ended_of 1 text-kinds.ps text-kinds.r) κs) → text.Learnt κs a r s
+  pub judge_promises : (r : (res_t text-kinds.r κs).Denot) (s : AtExit (ended_of 1 text-kinds.ps text-kinds.r) κs) → text.Learnt κs a r s
       → JudgesText a.0.now r
-  judge-promises r s l = record { answer = l.0; numbers = l.1 }
+  judge_promises r s l = record { answer = l.0; numbers = l.1 }
 
 module _ (κs : Lfts 1) (a : Dens κs part-kinds.ps) where
-  pub judge-part-asks-nothing : part.Asked κs a
-  judge-part-asks-nothing = tt
+  pub judge_part_asks_nothing : part.Asked κs a
+  judge_part_asks_nothing = tt
 
-  pub judge-part-promises : (r : (res_t part-kinds.r κs).Denot) (s : AtExit (ended_of 1 part-kinds.ps part-kinds.r) κs) → part.Learnt κs a r s
+  pub judge_part_promises : (r : (res_t part-kinds.r κs).Denot) (s : AtExit (ended_of 1 part-kinds.ps part-kinds.r) κs) → part.Learnt κs a r s
       → JudgesPart a.0.now a.1.0 a.1.1.0 r
-  judge-part-promises r s l = record { answer = l.0; numbers = l.1 }
+  judge_part_promises r s l = record { answer = l.0; numbers = l.1 }
 
 module _ (κs : Lfts 1) (a : Dens κs bytes-kinds.ps) where
-  pub is-utf8-asks-nothing : bytes.Asked κs a
-  is-utf8-asks-nothing = tt
+  pub is_utf8_asks_nothing : bytes.Asked κs a
+  is_utf8_asks_nothing = tt
 
-  pub is-utf8-promises : (r : (res_t bytes-kinds.r κs).Denot) (s : AtExit (ended_of 1 bytes-kinds.ps bytes-kinds.r) κs) → bytes.Learnt κs a r s
+  pub is_utf8_promises : (r : (res_t bytes-kinds.r κs).Denot) (s : AtExit (ended_of 1 bytes-kinds.ps bytes-kinds.r) κs) → bytes.Learnt κs a r s
       → IsText a.0.now a.1.0 a.1.1.0 r
-  is-utf8-promises r s l = record { answer = l }
+  is_utf8_promises r s l = record { answer = l }
 
 module _ (κs : Lfts 1) (a : Dens κs numbers-kinds.ps) where
-  pub are-utf8-asks-nothing : numbers.Asked κs a
-  are-utf8-asks-nothing = tt
+  pub are_utf8_asks_nothing : numbers.Asked κs a
+  are_utf8_asks_nothing = tt
 
-  pub are-utf8-promises : (r : (res_t numbers-kinds.r κs).Denot) (s : AtExit (ended_of 1 numbers-kinds.ps numbers-kinds.r) κs) → numbers.Learnt κs a r s
+  pub are_utf8_promises : (r : (res_t numbers-kinds.r κs).Denot) (s : AtExit (ended_of 1 numbers-kinds.ps numbers-kinds.r) κs) → numbers.Learnt κs a r s
       → AreText a.0.now r
-  are-utf8-promises r s l = record { answer = l }
+  are_utf8_promises r s l = record { answer = l }
 
 module _ (κs : Lfts 2) (a : Dens κs listing-kinds.ps) where
-  pub listing-asks-nothing : listing.Asked κs a
-  listing-asks-nothing = tt
+  pub listing_asks_nothing : listing.Asked κs a
+  listing_asks_nothing = tt
 
-  pub listing-promises : (r : (res_t listing-kinds.r κs).Denot) (s : AtExit (ended_of 2 listing-kinds.ps listing-kinds.r) κs) → listing.Learnt κs a r s
+  pub listing_promises : (r : (res_t listing-kinds.r κs).Denot) (s : AtExit (ended_of 2 listing-kinds.ps listing-kinds.r) κs) → listing.Learnt κs a r s
       → Lists a.0.now a.1.0.now s.1.0.now r
-  listing-promises r s l = record { answer = l.0; output = l.1.0 }
+  listing_promises r s l = record { answer = l.0; output = l.1.0 }
 
 module _ (κs : Lfts 6) (a : Dens κs trip-kinds.ps) where
-  pub round-trip-asks-nothing : trip.Asked κs a
-  round-trip-asks-nothing = tt
+  pub round_trip_asks_nothing : trip.Asked κs a
+  round_trip_asks_nothing = tt
 
-  pub round-trip-promises : (r : (res_t trip-kinds.r κs).Denot) (s : AtExit (ended_of 6 trip-kinds.ps trip-kinds.r) κs) → trip.Learnt κs a r s
+  pub round_trip_promises : (r : (res_t trip-kinds.r κs).Denot) (s : AtExit (ended_of 6 trip-kinds.ps trip-kinds.r) κs) → trip.Learnt κs a r s
       → RoundTrips a.0.now a.1.0.now a.1.1.0.now a.1.1.1.0 a.1.1.1.1.0.now a.1.1.1.1.1.0 a.1.1.1.1.1.1.0.now s.1.1.1.1.1.1.0.now
       a.1.1.1.1.1.1.1.0.now s.1.1.1.1.1.1.1.0.now r
-  round-trip-promises r s l = record { answer = l.0; values-list = l.1.0; output = l.1.1 }
+  round_trip_promises r s l = record { answer = l.0; values_list = l.1.0; output = l.1.1 }

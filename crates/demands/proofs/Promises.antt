@@ -17,42 +17,42 @@ use Rattle.writer.proofs.write.Reads as write
 use Rattle.demands.specs.Promises.{Checks, ReadsValues, ReadsObjects, Reads, Writes}
 
 module _ (κs : Lfts 4) (a : Dens κs check-kinds.ps) where
-  pub check-asks-nothing : check.Asked κs a
-  check-asks-nothing = tt
+  pub check_asks_nothing : check.Asked κs a
+  check_asks_nothing = tt
 
-  pub check-promises : (r : (res_t check-kinds.r κs).Denot) (s : AtExit (ended_of 4 check-kinds.ps check-kinds.r) κs) → check.Learnt κs a r s
+  pub check_promises : (r : (res_t check-kinds.r κs).Denot) (s : AtExit (ended_of 4 check-kinds.ps check-kinds.r) κs) → check.Learnt κs a r s
       → Checks a.0.now a.1.0.now a.1.1.0.now a.1.1.1.0 a.1.1.1.1.0.now a.1.1.1.1.1.0 r
-  check-promises r s l = record { answer = l.0; numbers = l.1 }
+  check_promises r s l = record { answer = l.0; numbers = l.1 }
 
 module _ (κs : Lfts 5) (a : Dens κs values-kinds.ps) where
-  pub read-values-asks-nothing : values.Asked κs a
-  read-values-asks-nothing = tt
+  pub read_values_asks_nothing : values.Asked κs a
+  read_values_asks_nothing = tt
 
-  pub read-values-promises : (r : (res_t values-kinds.r κs).Denot) (s : AtExit (ended_of 5 values-kinds.ps values-kinds.r) κs) → values.Learnt κs a r s
+  pub read_values_promises : (r : (res_t values-kinds.r κs).Denot) (s : AtExit (ended_of 5 values-kinds.ps values-kinds.r) κs) → values.Learnt κs a r s
       → ReadsValues a.0.now a.1.0.now a.1.1.0.now a.1.1.1.0 a.1.1.1.1.0.now a.1.1.1.1.1.0 a.1.1.1.1.1.1.0.now s.1.1.1.1.1.1.0.now r
-  read-values-promises r s l = record { answer = l.0; list = l.1.0; numbers = l.1.1 }
+  read_values_promises r s l = record { answer = l.0; list = l.1.0; numbers = l.1.1 }
 
 module _ (κs : Lfts 5) (a : Dens κs objects-kinds.ps) where
-  pub read-objects-asks-nothing : objects.Asked κs a
-  read-objects-asks-nothing = tt
+  pub read_objects_asks_nothing : objects.Asked κs a
+  read_objects_asks_nothing = tt
 
-  pub read-objects-promises : (r : (res_t objects-kinds.r κs).Denot) (s : AtExit (ended_of 5 objects-kinds.ps objects-kinds.r) κs) → objects.Learnt κs a r s
+  pub read_objects_promises : (r : (res_t objects-kinds.r κs).Denot) (s : AtExit (ended_of 5 objects-kinds.ps objects-kinds.r) κs) → objects.Learnt κs a r s
       → ReadsObjects a.0.now a.1.0.now a.1.1.0.now a.1.1.1.0 a.1.1.1.1.0.now a.1.1.1.1.1.0 a.1.1.1.1.1.1.0.now s.1.1.1.1.1.1.0.now r
-  read-objects-promises r s l = record { answer = l.0; list = l.1.0; numbers = l.1.1 }
+  read_objects_promises r s l = record { answer = l.0; list = l.1.0; numbers = l.1.1 }
 
 module _ (κs : Lfts 6) (a : Dens κs read-kinds.ps) where
-  pub read-asks-nothing : read.Asked κs a
-  read-asks-nothing = tt
+  pub read_asks_nothing : read.Asked κs a
+  read_asks_nothing = tt
 
-  pub read-promises : (r : (res_t read-kinds.r κs).Denot) (s : AtExit (ended_of 6 read-kinds.ps read-kinds.r) κs) → read.Learnt κs a r s
+  pub read_promises : (r : (res_t read-kinds.r κs).Denot) (s : AtExit (ended_of 6 read-kinds.ps read-kinds.r) κs) → read.Learnt κs a r s
       → Reads a.0.now a.1.0.now a.1.1.0.now a.1.1.1.0 a.1.1.1.1.0.now a.1.1.1.1.1.0 a.1.1.1.1.1.1.0.now s.1.1.1.1.1.1.0.now
       a.1.1.1.1.1.1.1.0.now s.1.1.1.1.1.1.1.0.now r
-  read-promises r s l = record { answer = l.0; values-list = l.1.0; objects-list = l.1.1.0; numbers = l.1.1.1 }
+  read_promises r s l = record { answer = l.0; values_list = l.1.0; objects_list = l.1.1.0; numbers = l.1.1.1 }
 
 module _ (κs : Lfts 5) (a : Dens κs write-kinds.ps) where
-  pub write-asks-nothing : write.Asked κs a
-  write-asks-nothing = tt
+  pub write_asks_nothing : write.Asked κs a
+  write_asks_nothing = tt
 
-  pub write-promises : (r : (res_t write-kinds.r κs).Denot) (s : AtExit (ended_of 5 write-kinds.ps write-kinds.r) κs) → write.Learnt κs a r s
+  pub write_promises : (r : (res_t write-kinds.r κs).Denot) (s : AtExit (ended_of 5 write-kinds.ps write-kinds.r) κs) → write.Learnt κs a r s
       → Writes a.0.now a.1.0.now a.1.1.0.now a.1.1.1.0 a.1.1.1.1.0.now a.1.1.1.1.1.0.now s.1.1.1.1.1.0.now r
-  write-promises r s l = record { answer = l.0; output = l.1.0; numbers = l.1.1 }
+  write_promises r s l = record { answer = l.0; output = l.1.0; numbers = l.1.1 }

@@ -3,14 +3,14 @@
 // specs/Demands.antt.
 ghost use Rattle.std.specs.Prelude.{◌≡◌, ◌++◌, ◌≤◌, length, drop};
 ghost use Rattle.rules.specs.declared.Place.TheVariants.{Amount};
-ghost use Rattle.rules.specs.Refusals.{fault, accepted, refused, lentAfter};
-ghost use Rattle.rules.specs.TypeTable.{typeTable};
+ghost use Rattle.rules.specs.Refusals.{fault, accepted, refused, lent_after};
+ghost use Rattle.rules.specs.TypeTable.{type_table};
 ghost use Rattle.rules.specs.Answers as Rules;
-ghost use Rattle.rules.specs.Answers.{outputAfter};
+ghost use Rattle.rules.specs.Answers.{output_after};
 ghost use Rattle.rules.specs.Demands.{IsWrittenTo};
 ghost use Rattle.walk_leaves.specs.Doing as Doing;
 ghost use Rattle.demands.specs.declared.Trip.TheVariants.{Same};
-ghost use Rattle.demands.specs.Trips.{tripOf, trip, tripValues, outputTooSmall};
+ghost use Rattle.demands.specs.Trips.{trip_of, trip, trip_values, output_too_small};
 
 use reader::{Given, Verdict};
 use rules::{Fault, Place};
@@ -35,8 +35,8 @@ fn needed(
     handles: u64,
     room: usize,
 ) -> usize
-    requires { Rules.check (Doing.message (typeTable rows.now members.now entries.now) message.now handles) root ≡ accepted tt }
-    ensures { refused (fault 22 (Amount result)) ≡ outputTooSmall (Doing.message (typeTable rows.now members.now entries.now) message.now handles) root room }
+    requires { Rules.check (Doing.message (type_table rows.now members.now entries.now) message.now handles) root ≡ accepted tt }
+    ensures { refused (fault 22 (Amount result)) ≡ output_too_small (Doing.message (type_table rows.now members.now entries.now) message.now handles) root room }
 {
     let mut no_values = [0u64; 0];
     if let Given::Refused(f) = reader::read_values(
@@ -67,7 +67,7 @@ fn back(
     values: &[u64],
     out: &mut [u8],
 ) -> Trip
-    requires { IsWrittenTo (typeTable rows.now members.now entries.now) root values.now message.now handles × (length message.now ≤ length out.old) }
+    requires { IsWrittenTo (type_table rows.now members.now entries.now) root values.now message.now handles × (length message.now ≤ length out.old) }
     ensures answer { result ≡ Same }
     ensures output { out.new ≡ message.now ++ drop (length message.now) out.old }
 {
@@ -97,9 +97,9 @@ pub fn round_trip(
     values: &mut [u64],
     out: &mut [u8],
 ) -> Trip
-    ensures answer { result ≡ tripOf (trip (Doing.message (typeTable rows.now members.now entries.now) message.now handles) root (length values.old) (length out.old)) }
-    ensures values { values.new ≡ lentAfter (tripValues (Doing.message (typeTable rows.now members.now entries.now) message.now handles) root (length values.old) (length out.old)) values.old }
-    ensures output { out.new ≡ outputAfter (trip (Doing.message (typeTable rows.now members.now entries.now) message.now handles) root (length values.old) (length out.old)) out.old }
+    ensures answer { result ≡ trip_of (trip (Doing.message (type_table rows.now members.now entries.now) message.now handles) root (length values.old) (length out.old)) }
+    ensures values { values.new ≡ lent_after (trip_values (Doing.message (type_table rows.now members.now entries.now) message.now handles) root (length values.old) (length out.old)) values.old }
+    ensures output { out.new ≡ output_after (trip (Doing.message (type_table rows.now members.now entries.now) message.now handles) root (length values.old) (length out.old)) out.old }
 {
     if let Verdict::Refused(f) = reader::check(rows, members, entries, root, message, handles) {
         return Trip::Refused(f);

@@ -7,9 +7,9 @@ use native.Mathlib.Omega.{arith}
 use borrow.Author.Tests.{leb-true, leb-false, le-leb, lt-leb}
 use lib.Dec.{leb}
 
-by-test : (whole number : ℕ) (b : Bool) → leb number (whole / 4) ≡ b → leb (number * 4) whole ≡ b
-by-test whole number true e = le-leb (number * 4) whole (omega (arith, leb-true number (whole / 4) e))
-by-test whole number false e = lt-leb (number * 4) whole (omega (arith, leb-false number (whole / 4) e))
+by_test : (whole number : ℕ) (b : Bool) → leb number (whole / 4) ≡ b → leb (number * 4) whole ≡ b
+by_test whole number true e = le-leb (number * 4) whole (omega (arith, leb-true number (whole / 4) e))
+by_test whole number false e = lt-leb (number * 4) whole (omega (arith, leb-false number (whole / 4) e))
 
-pub at-most-a-quarter : (whole number : ℕ) → leb (number * 4) whole ≡ leb number (whole / 4)
-at-most-a-quarter whole number = by-test whole number (leb number (whole / 4)) refl
+pub at_most_a_quarter : (whole number : ℕ) → leb (number * 4) whole ≡ leb number (whole / 4)
+at_most_a_quarter whole number = by_test whole number (leb number (whole / 4)) refl

@@ -1,4 +1,4 @@
--- What each test that the header reader makes shows of `readHeader`.
+-- What each test that the header reader makes shows of `read_header`.
 -- Assumes nothing.
 use mathlib.Core.Path.{◌≡◌, refl, sym, ap, ◌∙◌}
 use mathlib.Core.Bool.{Bool, true, false, not, ◌||◌}
@@ -14,133 +14,133 @@ use Rattle.rules.specs.declared.Fault.{Fault}
 use Rattle.rules.specs.declared.Place.TheVariants.{Byte}
 use Rattle.rules.specs.Refusals.{if◌then◌else◌, fault, Answer, accepted, require, and_then}
 use Rattle.rules.specs.Bytes.{part, word, leading_zeros, ones64, signed32}
-use Rattle.rules.specs.Answers.{numbersOf}
+use Rattle.rules.specs.Answers.{numbers_of}
 use Rattle.rules.specs.Header as Rules
-use Rattle.rules.specs.Header.{isEpitaph, requireOrdinal, requireStatus, readHeader, statusAfter, status, body}
+use Rattle.rules.specs.Header.{is_epitaph, require_ordinal, require_status, read_header, status_after, status, body}
 use Rattle.header.specs.declared.Header.{Header}
 use Rattle.header.specs.declared.Ordinal.{Ordinal}
 use Rattle.header.specs.declared.Ordinal.TheVariants as Judged
 use Rattle.header.specs.declared.HeaderAnswer.{HeaderAnswer}
 use Rattle.header.specs.declared.HeaderAnswer.TheVariants.{Accepted, Refused}
-use Rattle.header.specs.Meaning.{headerOf, answer_of, answerNumbers, statusOf, bodyStart, ordinalOf}
-use Rattle.header.proofs.Numbers.{answer-numbers}
+use Rattle.header.specs.Meaning.{header_of, answer_of, answer_numbers, status_of, body_start, ordinal_of}
+use Rattle.header.proofs.Numbers.{answer_numbers_lem}
 
 -- two tests, then what follows them
-both-then : {A : Type 0} (first second : Bool) (f g : Fault) (answer : Answer A)
+both_then : {A : Type 0} (first second : Bool) (f g : Fault) (answer : Answer A)
     → require first f (require second g answer) ≡ and_then (require first f (require second g (accepted (tt {0})))) (λ passed. answer)
-both-then true true f g answer = refl
-both-then true false f g answer = refl
-both-then false second f g answer = refl
+both_then true true f g answer = refl
+both_then true false f g answer = refl
+both_then false second f g answer = refl
 
 -- the tests of the ordinal, then what follows them
-pub ordinal-then : {A : Type 0} (h : Rules.Header) (answer : Answer A)
-    → requireOrdinal h answer ≡ and_then (requireOrdinal h (accepted (tt {0}))) (λ passed. answer)
-ordinal-then h answer = both-then (not (eqb h.ordinal 0)) (not (isEpitaph h) || eqb h.transaction 0) _ _ answer
+pub ordinal_then : {A : Type 0} (h : Rules.Header) (answer : Answer A)
+    → require_ordinal h answer ≡ and_then (require_ordinal h (accepted (tt {0}))) (λ passed. answer)
+ordinal_then h answer = both_then (not (eqb h.ordinal 0)) (not (is_epitaph h) || eqb h.transaction 0) _ _ answer
 
-pub header-in-message : (message : List ℕ) {transaction flag0 flag1 flag2 ordinal : ℕ} → 16 ≤ length message
+pub header_in_message : (message : List ℕ) {transaction flag0 flag1 flag2 ordinal : ℕ} → 16 ≤ length message
     → transaction ≡ word message 0 4 → flag0 ≡ get_or message 4 0 → flag1 ≡ get_or message 5 0 → flag2 ≡ get_or message 6 0 → ordinal ≡ word message 8 8
-    → headerOf (record { transaction = transaction; flag0 = flag0; flag1 = flag1; flag2 = flag2; ordinal = ordinal }) ≡ Rules.headerOf message
-header-in-message message h t f g k o = rw (t, f, g, k, o)
+    → header_of (record { transaction = transaction; flag0 = flag0; flag1 = flag1; flag2 = flag2; ordinal = ordinal }) ≡ Rules.header_of message
+header_in_message message h t f g k o = rw (t, f, g, k, o)
 
 -- ---- what is promised of an answer
 
 abbrev pub Reads : (message : List ℕ) → HeaderAnswer → Type 0
 Reads message answer =
-    (answer_of answer ≡ readHeader message)
-    × ((answerNumbers answer ≡ numbersOf 5 Rules.fields (readHeader message)) × (statusOf answer ≡ status message))
+    (answer_of answer ≡ read_header message)
+    × ((answer_numbers answer ≡ numbers_of 5 Rules.fields (read_header message)) × (status_of answer ≡ status message))
 
-reads : (message : List ℕ) (answer : HeaderAnswer) → answer_of answer ≡ readHeader message → statusOf answer ≡ statusAfter (answer_of answer) message
+reads : (message : List ℕ) (answer : HeaderAnswer) → answer_of answer ≡ read_header message → status_of answer ≡ status_after (answer_of answer) message
     → Reads message answer
 unfolding status
-reads message answer told signed = (told, (answer-numbers answer told, signed ∙ ap (λ (a : Answer Rules.Header). statusAfter a message) told))
+reads message answer told signed = (told, (answer_numbers_lem answer told, signed ∙ ap (λ (a : Answer Rules.Header). status_after a message) told))
 
 -- ---- the tests of an epitaph's body
 
 module _ (message : List ℕ) (h : Header) where
   -- what the reader of an epitaph's body answers
   abbrev pub ReadsBody : HeaderAnswer → Type 0
-  ReadsBody answer = (answer_of answer ≡ requireStatus message (accepted (headerOf h))) × (statusOf answer ≡ statusAfter (answer_of answer) message)
+  ReadsBody answer = (answer_of answer ≡ require_status message (accepted (header_of h))) × (status_of answer ≡ status_after (answer_of answer) message)
 
-  pub status-cut-off : {f : Fault} → length message < 24 → f ≡ fault 6 (Byte 16) → ReadsBody (Refused f)
-  status-cut-off short e = (simp (e, lt-leb _ _ short), refl)
+  pub status_cut_off : {f : Fault} → length message < 24 → f ≡ fault 6 (Byte 16) → ReadsBody (Refused f)
+  status_cut_off short e = (simp (e, lt-leb _ _ short), refl)
 
   module _ (whole : 24 ≤ length message) {zeros : ℕ} (counted : zeros ≡ leading_zeros (part message 20 4)) where
-    pub status-fill : {f : Fault} → (zeros ≡ 4 → ⊥) → f ≡ fault 7 (Byte (20 + zeros)) → ReadsBody (Refused f)
-    status-fill n e = (simp (e, le-leb _ _ whole, ← counted, ne_eqb _ _ n), refl)
+    pub status_fill : {f : Fault} → (zeros ≡ 4 → ⊥) → f ≡ fault 7 (Byte (20 + zeros)) → ReadsBody (Refused f)
+    status_fill n e = (simp (e, le-leb _ _ whole, ← counted, ne_eqb _ _ n), refl)
 
     module _ (clean : zeros ≡ 4) where
-      pub status-bytes-left : {f : Fault} → (length message ≡ 24 → ⊥) → f ≡ fault 20 (Byte 24) → ReadsBody (Refused f)
-      status-bytes-left n e = (simp (e, le-leb _ _ whole, ← counted, eq-eqb _ _ clean, ne_eqb _ _ n), refl)
+      pub status_bytes_left : {f : Fault} → (length message ≡ 24 → ⊥) → f ≡ fault 20 (Byte 24) → ReadsBody (Refused f)
+      status_bytes_left n e = (simp (e, le-leb _ _ whole, ← counted, eq-eqb _ _ clean, ne_eqb _ _ n), refl)
 
-      pub status-read : {pattern : ℕ} {number : ℤ} → isEpitaph (headerOf h) ≡ true → length message ≡ 24 → pattern ≡ word message 16 4 → number ≡ signed32 pattern
+      pub status_read_lem : {pattern : ℕ} {number : ℤ} → is_epitaph (header_of h) ≡ true → length message ≡ 24 → pattern ≡ word message 16 4 → number ≡ signed32 pattern
           → ReadsBody (Accepted h number)
-      status-read epitaph all p n = (simp (le-leb _ _ whole, ← counted, eq-eqb _ _ clean, eq-eqb _ _ all), rw (epitaph, n, p))
+      status_read_lem epitaph all p n = (simp (le-leb _ _ whole, ← counted, eq-eqb _ _ clean, eq-eqb _ _ all), rw (epitaph, n, p))
 
 -- ---- the header's tests, and of an epitaph those of its body
 
-abbrev bodyJudged : (message : List ℕ) → Rules.Header → Answer Rules.Header
-bodyJudged message h = if isEpitaph h then requireStatus message (accepted h) else accepted h
+abbrev body_judged : (message : List ℕ) → Rules.Header → Answer Rules.Header
+body_judged message h = if is_epitaph h then require_status message (accepted h) else accepted h
 
 module _ (message : List ℕ) where
   pub too_long : {f : Fault} → 65536 < length message → f ≡ fault 3 (Byte 0) → Reads message (Refused f)
-  unfolding readHeader
+  unfolding read_header
   too_long h e = reads message (Refused _) (simp (e, lt-leb _ _ h)) refl
 
   module _ (longest : length message ≤ 65536) where
     pub too_short : {f : Fault} → length message < 16 → f ≡ fault 6 (Byte 0) → Reads message (Refused f)
-    unfolding readHeader
+    unfolding read_header
     too_short h e = reads message (Refused _) (simp (e, le-leb _ _ longest, lt-leb _ _ h)) refl
 
     module _ (shortest : 16 ≤ length message) {magic : ℕ} (byte : magic ≡ get_or message 7 0) where
-      pub magic-wrong : {f : Fault} → (magic ≡ 1 → ⊥) → f ≡ fault 23 (Byte 7) → Reads message (Refused f)
-      unfolding readHeader
-      magic-wrong n e = reads message (Refused _) (simp (e, le-leb _ _ longest, le-leb _ _ shortest, ← byte, ne_eqb _ _ n)) refl
+      pub magic_wrong_lem : {f : Fault} → (magic ≡ 1 → ⊥) → f ≡ fault 23 (Byte 7) → Reads message (Refused f)
+      unfolding read_header
+      magic_wrong_lem n e = reads message (Refused _) (simp (e, le-leb _ _ longest, le-leb _ _ shortest, ← byte, ne_eqb _ _ n)) refl
 
-      module _ (one : magic ≡ 1) (h : Header) (header : headerOf h ≡ Rules.headerOf message) (ordinal : Ordinal)
-          (judged : ordinalOf ordinal ≡ requireOrdinal (headerOf h) (accepted tt)) where
-        judged-header : readHeader message ≡ and_then (ordinalOf ordinal) (λ passed. bodyJudged message (headerOf h))
-        unfolding readHeader
-        judged-header =
-            let e : readHeader message ≡ requireOrdinal (Rules.headerOf message) (bodyJudged message (Rules.headerOf message))
+      module _ (one : magic ≡ 1) (h : Header) (header : header_of h ≡ Rules.header_of message) (ordinal : Ordinal)
+          (judged : ordinal_of ordinal ≡ require_ordinal (header_of h) (accepted tt)) where
+        judged_header : read_header message ≡ and_then (ordinal_of ordinal) (λ passed. body_judged message (header_of h))
+        unfolding read_header
+        judged_header =
+            let e : read_header message ≡ require_ordinal (Rules.header_of message) (body_judged message (Rules.header_of message))
             = simp (le-leb _ _ longest, le-leb _ _ shortest, eq-eqb _ _ (sym byte ∙ one)) in
-            e ∙ ap (λ (k : Rules.Header). requireOrdinal k (bodyJudged message k)) (sym header)
-            ∙ ordinal-then (headerOf h) (bodyJudged message (headerOf h))
-            ∙ ap (λ (a : Answer (Unit {0})). and_then a (λ passed. bodyJudged message (headerOf h))) (sym judged)
+            e ∙ ap (λ (k : Rules.Header). require_ordinal k (body_judged message k)) (sym header)
+            ∙ ordinal_then (header_of h) (body_judged message (header_of h))
+            ∙ ap (λ (a : Answer (Unit {0})). and_then a (λ passed. body_judged message (header_of h))) (sym judged)
 
-        pub ordinal-refused : {f : Fault} → ordinal ≡ Judged.Refused f → Reads message (Refused f)
-        ordinal-refused e = reads message (Refused _) (rw (judged-header, e)) refl
+        pub ordinal_refused : {f : Fault} → ordinal ≡ Judged.Refused f → Reads message (Refused f)
+        ordinal_refused e = reads message (Refused _) (rw (judged_header, e)) refl
 
         module _ (allowed : ordinal ≡ Judged.Allowed) where
-          pub header-accepted : (h.ordinal ≡ ones64 → ⊥) → Reads message (Accepted h (pos 0))
-          header-accepted n = reads message (Accepted h (pos 0)) (simp (judged-header, allowed, ne_eqb _ _ n)) (simp (ne_eqb _ _ n))
+          pub header_accepted : (h.ordinal ≡ ones64 → ⊥) → Reads message (Accepted h (pos 0))
+          header_accepted n = reads message (Accepted h (pos 0)) (simp (judged_header, allowed, ne_eqb _ _ n)) (simp (ne_eqb _ _ n))
 
-          pub epitaph-read : (answer : HeaderAnswer) → h.ordinal ≡ ones64 → ReadsBody message h answer → Reads message answer
-          epitaph-read answer e body = reads message answer (body.0 ∙ simp (judged-header, allowed, eq-eqb _ _ e)) body.1
+          pub epitaph_read : (answer : HeaderAnswer) → h.ordinal ≡ ones64 → ReadsBody message h answer → Reads message answer
+          epitaph_read answer e body = reads message answer (body.0 ∙ simp (judged_header, allowed, eq-eqb _ _ e)) body.1
 
 -- an answer that passed two tests passed the second
-second-passed : {A : Type 0} (first second : Bool) (f g : Fault) (answer : Answer A) {a : A} → require first f (require second g answer) ≡ accepted a → second ≡ true
-second-passed first true f g answer e = refl
-second-passed true false f g answer e = let z : ◌≡◌ {A = ℕ} 0 1 = cc in absurd (omega arith)
-second-passed false false f g answer e = let z : ◌≡◌ {A = ℕ} 0 1 = cc in absurd (omega arith)
+second_passed : {A : Type 0} (first second : Bool) (f g : Fault) (answer : Answer A) {a : A} → require first f (require second g answer) ≡ accepted a → second ≡ true
+second_passed first true f g answer e = refl
+second_passed true false f g answer e = let z : ◌≡◌ {A = ℕ} 0 1 = cc in absurd (omega arith)
+second_passed false false f g answer e = let z : ◌≡◌ {A = ℕ} 0 1 = cc in absurd (omega arith)
 
 -- what the reader's answer says of the body
-module _ (message : List ℕ) (answer : HeaderAnswer) (read : answer_of answer ≡ readHeader message) where
-  pub body-inside : {h : Header} {s : ℤ} → answer ≡ Accepted h s → 16 ≤ length message
-  unfolding readHeader
-  body-inside {h} {s} e =
-      let passed : readHeader message ≡ accepted (headerOf h) = rw (← read, e) in
-      leb-true 16 (length message) (second-passed (leb (length message) 65536) (leb 16 (length message)) _ _ _ passed)
+module _ (message : List ℕ) (answer : HeaderAnswer) (read : answer_of answer ≡ read_header message) where
+  pub body_inside : {h : Header} {s : ℤ} → answer ≡ Accepted h s → 16 ≤ length message
+  unfolding read_header
+  body_inside {h} {s} e =
+      let passed : read_header message ≡ accepted (header_of h) = rw (← read, e) in
+      leb-true 16 (length message) (second_passed (leb (length message) 65536) (leb 16 (length message)) _ _ _ passed)
 
-  pub body-accepted : {h : Header} {s : ℤ} → answer ≡ Accepted h s → take (length message - 16) (drop 16 message) ≡ body message
+  pub body_accepted : {h : Header} {s : ℤ} → answer ≡ Accepted h s → take (length message - 16) (drop 16 message) ≡ body message
   unfolding body
-  body-accepted e = rw (← read, e) (take_all (length message - 16) (drop 16 message) (omega (arith, length-drop 16 message)))
+  body_accepted e = rw (← read, e) (take_all (length message - 16) (drop 16 message) (omega (arith, length-drop 16 message)))
 
-  pub start-accepted : {h : Header} {s : ℤ} (start : ℕ × ℕ) → answer ≡ Accepted h s → (start.0, 16 + start.1) ≡ bodyStart (readHeader message) start
-  start-accepted start e = rw (← read, e)
+  pub start_accepted : {h : Header} {s : ℤ} (start : ℕ × ℕ) → answer ≡ Accepted h s → (start.0, 16 + start.1) ≡ body_start (read_header message) start
+  start_accepted start e = rw (← read, e)
 
   pub body_refused : {f : Fault} → answer ≡ Refused f → [] ≡ body message
   unfolding body
   body_refused e = rw (← read, e)
 
-  pub start-refused : {f : Fault} (start : ℕ × ℕ) → answer ≡ Refused f → start ≡ bodyStart (readHeader message) start
-  start-refused start e = rw (← read, e)
+  pub start_refused : {f : Fault} (start : ℕ × ℕ) → answer ≡ Refused f → start ≡ body_start (read_header message) start
+  start_refused start e = rw (← read, e)

@@ -2,10 +2,10 @@
 ghost use Rattle.std.specs.Prelude.{◌≡◌, true, [], ◌∷◌, ◌+◌, ◌≤◌, length};
 ghost use Rattle.std.proofs.lemmas.List.Edits.{sets};
 ghost use Rattle.rules.specs.declared.Place.TheVariants.{Byte, Amount};
-ghost use Rattle.rules.specs.Refusals.{fault, accepted, lentAfter};
-ghost use Rattle.rules.specs.Answers.{numbersOf, counted};
+ghost use Rattle.rules.specs.Refusals.{fault, accepted, lent_after};
+ghost use Rattle.rules.specs.Answers.{numbers_of, counted};
 ghost use Rattle.rules.specs.Header as Rules;
-ghost use Rattle.header.specs.Meaning.{headerOf, answer_of, answerNumbers, statusOf, byte_count, bodyStart, written_of, writtenNumbers, ordinalOf};
+ghost use Rattle.header.specs.Meaning.{header_of, answer_of, answer_numbers, status_of, byte_count, body_start, written_of, written_numbers, ordinal_of};
 
 // The ordinal of an epitaph, all ones.
 const EPITAPH: u64 = 18446744073709551615;
@@ -63,7 +63,7 @@ fn no_room(bytes: usize) -> rules::Fault
 
 // 24 at 8, an ordinal of 0; 25 at 0, an epitaph with a transaction number.
 fn judge_ordinal(header: Header) -> Ordinal
-    ensures { ordinalOf result ≡ Rules.requireOrdinal (headerOf header) (accepted tt) }
+    ensures { ordinal_of result ≡ Rules.require_ordinal (header_of header) (accepted tt) }
 {
     if header.ordinal == 0 {
         return Ordinal::Refused(at_byte(24, 8));
@@ -77,7 +77,7 @@ fn judge_ordinal(header: Header) -> Ordinal
 // The header that stands in a message's first 16 bytes.
 fn header_in(message: &[u8]) -> Header
     requires { 16 ≤ length message.now }
-    ensures { headerOf result ≡ Rules.headerOf message.now }
+    ensures { header_of result ≡ Rules.header_of message.now }
 {
     Header {
         transaction: words::load32(message, 0),
@@ -90,9 +90,9 @@ fn header_in(message: &[u8]) -> Header
 
 // An epitaph's body: 6 at 16, under 24 bytes; 7 at the first of bytes 20 to 23 that is not zero; 20 at 24, more bytes.
 fn read_epitaph(header: Header, message: &[u8]) -> HeaderAnswer
-    requires { Rules.isEpitaph (headerOf header) ≡ true }
-    ensures answer { answer_of result ≡ Rules.requireStatus message.now (accepted (headerOf header)) }
-    ensures status { statusOf result ≡ Rules.statusAfter (answer_of result) message.now }
+    requires { Rules.is_epitaph (header_of header) ≡ true }
+    ensures answer { answer_of result ≡ Rules.require_status message.now (accepted (header_of header)) }
+    ensures status { status_of result ≡ Rules.status_after (answer_of result) message.now }
 {
     if message.len() < 24 {
         return HeaderAnswer::Refused(at_byte(6, 16));
@@ -112,9 +112,9 @@ fn read_epitaph(header: Header, message: &[u8]) -> HeaderAnswer
 
 // 3 at 0, over 65,536 bytes; 6 at 0, under 16; 23 at 7, another magic byte than 1; 24; 25; of an epitaph, the tests of its body.
 pub fn read_header(message: &[u8]) -> HeaderAnswer
-    ensures answer { answer_of result ≡ Rules.readHeader message.now }
-    ensures numbers { answerNumbers result ≡ numbersOf 5 Rules.fields (Rules.readHeader message.now) }
-    ensures status { statusOf result ≡ Rules.status message.now }
+    ensures answer { answer_of result ≡ Rules.read_header message.now }
+    ensures numbers { answer_numbers result ≡ numbers_of 5 Rules.fields (Rules.read_header message.now) }
+    ensures status { status_of result ≡ Rules.status message.now }
 {
     if 65536 < message.len() {
         return HeaderAnswer::Refused(at_byte(3, 0));
@@ -141,7 +141,7 @@ pub fn read_header(message: &[u8]) -> HeaderAnswer
 // The message's own bytes from byte 16 on, an epitaph's 8 too; where the header is refused, its empty start.
 pub fn body(message: &[u8]) -> &[u8]
     ensures bytes { result.now ≡ Rules.body message.now }
-    ensures start { result.ref_ptr ≡ bodyStart (Rules.readHeader message.now) message.entry.ref_ptr }
+    ensures start { result.ref_ptr ≡ body_start (Rules.read_header message.now) message.entry.ref_ptr }
 {
     let answer = read_header(message);
     match answer {
@@ -152,7 +152,7 @@ pub fn body(message: &[u8]) -> &[u8]
 
 // The 16 bytes of a header, at the start of the output.
 fn store_header(header: Header, out: &mut [u8])
-    ensures { out.new ≡ sets out.old 0 (Rules.headerBytes (headerOf header)) }
+    ensures { out.new ≡ sets out.old 0 (Rules.header_bytes (header_of header)) }
 {
     words::store32(out, 0, header.transaction);
     words::store8(out, 4, header.flag0);
@@ -164,9 +164,9 @@ fn store_header(header: Header, out: &mut [u8])
 
 // 24; 25; 22 with the place 16, under 16 bytes of room. A refusal changes nothing, and nothing changes past the header.
 pub fn write_header(header: Header, out: &mut [u8]) -> HeaderWritten
-    ensures answer { written_of result ≡ byte_count (Rules.writeHeader (headerOf header) (length out.old)) }
-    ensures output { out.new ≡ lentAfter (Rules.writeHeader (headerOf header) (length out.old)) out.old }
-    ensures numbers { writtenNumbers result ≡ numbersOf 1 counted (Rules.writeHeader (headerOf header) (length out.old)) }
+    ensures answer { written_of result ≡ byte_count (Rules.write_header (header_of header) (length out.old)) }
+    ensures output { out.new ≡ lent_after (Rules.write_header (header_of header) (length out.old)) out.old }
+    ensures numbers { written_numbers result ≡ numbers_of 1 counted (Rules.write_header (header_of header) (length out.old)) }
 {
     let judged = judge_ordinal(header);
     match judged {
@@ -183,9 +183,9 @@ pub fn write_header(header: Header, out: &mut [u8]) -> HeaderWritten
 
 // A whole epitaph, 24 bytes. 22 with the place 24, under 24 bytes of room, changes nothing, and nothing changes past the epitaph.
 pub fn write_epitaph(flag0: u8, flag1: u8, flag2: u8, status: i32, out: &mut [u8]) -> HeaderWritten
-    ensures answer { written_of result ≡ byte_count (Rules.writeEpitaph flag0 flag1 flag2 status (length out.old)) }
-    ensures output { out.new ≡ lentAfter (Rules.writeEpitaph flag0 flag1 flag2 status (length out.old)) out.old }
-    ensures numbers { writtenNumbers result ≡ numbersOf 1 counted (Rules.writeEpitaph flag0 flag1 flag2 status (length out.old)) }
+    ensures answer { written_of result ≡ byte_count (Rules.write_epitaph flag0 flag1 flag2 status (length out.old)) }
+    ensures output { out.new ≡ lent_after (Rules.write_epitaph flag0 flag1 flag2 status (length out.old)) out.old }
+    ensures numbers { written_numbers result ≡ numbers_of 1 counted (Rules.write_epitaph flag0 flag1 flag2 status (length out.old)) }
 {
     if out.len() < 24 {
         return HeaderWritten::Refused(no_room(24));

@@ -40,8 +40,8 @@ module _ (key : ℕ → ℕ) where
         let b : first + (k - first) ≡ k = omega arith in
         rw (a, b) at (rising (j - first) (k - first) (omega arith) (omega arith))
 
-    pub not-falls : (j k : ℕ) → first ≤ j → j ≤ k → k < first + count → key j ≤ key k
-    not-falls j k h i l = go (eqb j k) refl
+    pub not_falls : (j k : ℕ) → first ≤ j → j ≤ k → k < first + count → key j ≤ key k
+    not_falls j k h i l = go (eqb j k) refl
       where
         go : (b : Bool) → eqb j k ≡ b → key j ≤ key k
         go true q = let e : j ≡ k = eqb-true j k q in rw e (omega arith)

@@ -18,9 +18,9 @@ placed before member =
     layout (round_up before.size member.alignment + member.size) (max before.alignment member.alignment)
 
 -- Its members' rows one after the other.
-unfoldable pub placedAll : (inner : ℕ → Layout) → (before : Layout) → List ℕ → Layout
-placedAll inner before [] = before
-placedAll inner before (row ∷ rows) = placedAll inner (placed before (inner row)) rows
+unfoldable pub placed_all : (inner : ℕ → Layout) → (before : Layout) → List ℕ → Layout
+placed_all inner before [] = before
+placed_all inner before (row ∷ rows) = placed_all inner (placed before (inner row)) rows
 
 -- The whole struct, when every member is placed.
 abbrev pub closed : (before : Layout) → Layout

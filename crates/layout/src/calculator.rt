@@ -1,7 +1,7 @@
 // Size and alignment of a row by recursion on its element or its members, the row number falling, down to the rows whose
 // sizes and alignments are kept.
 ghost use Rattle.std.specs.Prelude.{◌≡◌, get_or};
-ghost use Rattle.rules.specs.TypeTable.{typeTable, kindAt};
+ghost use Rattle.rules.specs.TypeTable.{type_table, kind_at};
 ghost use Rattle.rules.specs.Sizes.{layout, layout_of};
 ghost use Rattle.layout.specs.Kept.{Layable};
 
@@ -30,8 +30,8 @@ fn inner_layout(
     kept: u32,
     row: u32,
 ) -> Layout
-    requires { Layable (typeTable rows.now members.now entries.now) kept row sizes.now alignments.now }
-    ensures { result ≡ layout_of (typeTable rows.now members.now entries.now) row }
+    requires { Layable (type_table rows.now members.now entries.now) kept row sizes.now alignments.now }
+    ensures { result ≡ layout_of (type_table rows.now members.now entries.now) row }
 {
     if row < kept {
         return kept_at(sizes, alignments, row);
@@ -49,8 +49,8 @@ pub(crate) fn row_layout(
     kept: u32,
     row: u32,
 ) -> Layout
-    requires { Layable (typeTable rows.now members.now entries.now) kept row sizes.now alignments.now }
-    ensures { result ≡ layout_of (typeTable rows.now members.now entries.now) row }
+    requires { Layable (type_table rows.now members.now entries.now) kept row sizes.now alignments.now }
+    ensures { result ≡ layout_of (type_table rows.now members.now entries.now) row }
 {
     let kind = table::kind_at(rows, row as usize);
     let a = table::a_at(rows, row as usize);
@@ -74,9 +74,9 @@ fn struct_layout(
     kept: u32,
     row: u32,
 ) -> Layout
-    requires layable { Layable (typeTable rows.now members.now entries.now) kept row sizes.now alignments.now }
-    requires row_value { kindAt (typeTable rows.now members.now entries.now) row ≡ 7 }
-    ensures { result ≡ layout_of (typeTable rows.now members.now entries.now) row }
+    requires layable { Layable (type_table rows.now members.now entries.now) kept row sizes.now alignments.now }
+    requires row_value { kind_at (type_table rows.now members.now entries.now) row ≡ 7 }
+    ensures { result ≡ layout_of (type_table rows.now members.now entries.now) row }
 {
     let mut next = table::a_at(rows, row as usize);
     let mut left = table::b_at(rows, row as usize);

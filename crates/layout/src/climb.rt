@@ -1,10 +1,10 @@
 // Going up the rows of a type table: each is judged from the sizes and alignments that are kept of the rows below it, and then
 // kept itself.
 ghost use Rattle.std.specs.Prelude.{◌≡◌, ◌≤◌, length};
-ghost use Rattle.rules.specs.TypeTable.{typeTable};
+ghost use Rattle.rules.specs.TypeTable.{type_table};
 ghost use Rattle.rules.specs.Sound.{soundness};
-ghost use Rattle.layout.specs.Answers.{verdictOf, keptSizes, keptAlignments, givenIfSound};
-ghost use Rattle.layout.specs.Kept.{Zeroed, KeptBelow, Climbing, Climbed, judged, refusedAt};
+ghost use Rattle.layout.specs.Answers.{verdict_of, kept_sizes, kept_alignments, given_if_sound};
+ghost use Rattle.layout.specs.Kept.{Zeroed, KeptBelow, Climbing, Climbed, judged, refused_at};
 
 use crate::Soundness;
 use crate::calculator::row_layout;
@@ -28,9 +28,9 @@ fn judge(
     alignments: &[u32; 256],
     row: u32,
 ) -> Judged
-    requires kept_below { KeptBelow (typeTable rows.now members.now entries.now) row sizes.now alignments.now }
+    requires kept_below { KeptBelow (type_table rows.now members.now entries.now) row sizes.now alignments.now }
     requires members_len_bound { length members.now ≤ 2048 }
-    ensures { result ≡ judged (typeTable rows.now members.now entries.now) row }
+    ensures { result ≡ judged (type_table rows.now members.now entries.now) row }
 {
     if !row_fits(rows, members, entries, row) {
         return Judged::Bad;
@@ -45,7 +45,7 @@ fn judge(
 
 // 1, at a row.
 fn refused_at(row: u32) -> Soundness
-    ensures { result ≡ refusedAt row }
+    ensures { result ≡ refused_at row }
 {
     Soundness::Refused(Fault {
         number: 1,
@@ -63,8 +63,8 @@ pub fn climb_from(
     sizes: &mut [u32; 256],
     alignments: &mut [u32; 256],
 ) -> Soundness
-    requires { Climbing (typeTable rows.now members.now entries.now) first sizes.old alignments.old }
-    ensures { Climbed (typeTable rows.now members.now entries.now) result sizes.old alignments.old sizes.new alignments.new }
+    requires { Climbing (type_table rows.now members.now entries.now) first sizes.old alignments.old }
+    ensures { Climbed (type_table rows.now members.now entries.now) result sizes.old alignments.old sizes.new alignments.new }
 {
     if !lists_whole(rows, members, entries) {
         return refused_at(256);
@@ -92,11 +92,11 @@ pub fn climb(
     alignments: &mut [u32; 256],
 ) -> Soundness
     requires { Zeroed sizes.old × Zeroed alignments.old }
-    ensures verdict { verdictOf result ≡ soundness (typeTable rows.now members.now entries.now) }
-    ensures sizes { let t = typeTable rows.now members.now entries.now in
-        sizes.new ≡ givenIfSound t (keptSizes t) sizes.old }
-    ensures alignments { let t = typeTable rows.now members.now entries.now in
-        alignments.new ≡ givenIfSound t (keptAlignments t) alignments.old }
+    ensures verdict { verdict_of result ≡ soundness (type_table rows.now members.now entries.now) }
+    ensures sizes { let t = type_table rows.now members.now entries.now in
+        sizes.new ≡ given_if_sound t (kept_sizes t) sizes.old }
+    ensures alignments { let t = type_table rows.now members.now entries.now in
+        alignments.new ≡ given_if_sound t (kept_alignments t) alignments.old }
 {
     let verdict = climb_from(rows, members, entries, 0, sizes, alignments);
     if let Soundness::Refused(fault) = verdict {

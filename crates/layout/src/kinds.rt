@@ -1,13 +1,13 @@
 // Whether a row has its line of the table of kinds (1): document 01, "The type table".
 ghost use Rattle.std.specs.Prelude.{◌&&◌, ◌≡◌, ℕ, suc, ◌≤◌, ◌^◌, length};
-ghost use Rattle.rules.specs.TypeTable.{TypeTable, typeTable, type_of};
-ghost use Rattle.rules.specs.Sound.{membersExist, structMembers, risingMembers, entriesExist, risingEntries, widthAllowed, rowFits};
+ghost use Rattle.rules.specs.TypeTable.{TypeTable, type_table, type_of};
+ghost use Rattle.rules.specs.Sound.{members_exist, struct_members, rising_members, entries_exist, rising_entries, width_allowed, row_fits};
 
 // A struct's members exist, "struct ordinals are 1, 2, 3 and on", and its members' rows have smaller numbers than its own.
 fn struct_members(members: &[u32], row: u32, first: u32, count: u32) -> bool
     requires { length members.now ≤ 2048 }
     ensures { (t : TypeTable) → t.members ≡ members.now →
-        result ≡ (membersExist t first count && structMembers t row first count 1) }
+        result ≡ (members_exist t first count && struct_members t row first count 1) }
 {
     if members.len() / 2 < (first as usize) + (count as usize) {
         return false;
@@ -32,7 +32,7 @@ fn struct_members(members: &[u32], row: u32, first: u32, count: u32) -> bool
 fn rising_members(rows: &[u32], members: &[u32], first: u32, count: u32) -> bool
     requires { length members.now ≤ 2048 }
     ensures { (t : TypeTable) → t.rows ≡ rows.now → t.members ≡ members.now →
-        result ≡ (membersExist t first count && risingMembers t first count 0) }
+        result ≡ (members_exist t first count && rising_members t first count 0) }
 {
     if members.len() / 2 < (first as usize) + (count as usize) {
         return false;
@@ -58,7 +58,7 @@ fn rising_members(rows: &[u32], members: &[u32], first: u32, count: u32) -> bool
 // Entries exist, rise strictly, and are at most the largest pattern of some width: 256 to the width may not fit a number.
 fn rising_entries(entries: &[u64], largest: u64, first: u32, count: u32) -> bool
     ensures { (t : TypeTable) → t.entries ≡ entries.now → (width : ℕ) → 256 ^ width ≡ suc largest →
-        result ≡ (entriesExist t first count && risingEntries t width first count 0) }
+        result ≡ (entries_exist t first count && rising_entries t width first count 0) }
 {
     if entries.len() < (first as usize) + (count as usize) {
         return false;
@@ -83,7 +83,7 @@ fn rising_entries(entries: &[u64], largest: u64, first: u32, count: u32) -> bool
 // strictly".
 fn entries_fit(entries: &[u64], width: u32, first: u32, count: u32) -> bool
     ensures { (t : TypeTable) → t.entries ≡ entries.now →
-        result ≡ (widthAllowed width && (entriesExist t first count && risingEntries t width first count 0)) }
+        result ≡ (width_allowed width && (entries_exist t first count && rising_entries t width first count 0)) }
 {
     match width {
         1 => rising_entries(entries, 255, first, count),
@@ -97,8 +97,8 @@ fn entries_fit(entries: &[u64], width: u32, first: u32, count: u32) -> bool
 // The row's line of the table of kinds, with the cells that must be 0; no other kind has one.
 pub(crate) fn row_fits(rows: &[u32], members: &[u32], entries: &[u64], row: u32) -> bool
     requires { length members.now ≤ 2048 }
-    ensures { let t = typeTable rows.now members.now entries.now in
-        result ≡ rowFits t row (type_of t row) }
+    ensures { let t = type_table rows.now members.now entries.now in
+        result ≡ row_fits t row (type_of t row) }
 {
     let kind = table::kind_at(rows, row as usize);
     let a = table::a_at(rows, row as usize);

@@ -6,10 +6,10 @@ mod lists;
 mod sizes;
 
 ghost use Rattle.std.specs.Prelude.{◌≡◌};
-ghost use Rattle.rules.specs.TypeTable.{typeTable};
+ghost use Rattle.rules.specs.TypeTable.{type_table};
 ghost use Rattle.rules.specs.Sound.{soundness};
-ghost use Rattle.rules.specs.Answers.{layoutAnswer, numbersOf, nothing, laid};
-ghost use Rattle.layout.specs.Answers.{verdictOf, verdictNumbers, answer_of, answerNumbers, RootIs, keptSizes, keptAlignments, givenIfSound};
+ghost use Rattle.rules.specs.Answers.{layout_answer, numbers_of, nothing, laid};
+ghost use Rattle.layout.specs.Answers.{verdict_of, verdict_numbers, answer_of, answer_numbers, RootIs, kept_sizes, kept_alignments, given_if_sound};
 
 use calculator::kept_at;
 use climb::climb;
@@ -38,12 +38,12 @@ pub fn prepare(
     sizes: &mut [u32; 256],
     alignments: &mut [u32; 256],
 ) -> Soundness
-    ensures verdict { verdictOf result ≡ soundness (typeTable rows.now members.now entries.now) }
-    ensures sizes { let t = typeTable rows.now members.now entries.now in
-        sizes.new ≡ givenIfSound t (keptSizes t) sizes.old }
-    ensures alignments { let t = typeTable rows.now members.now entries.now in
-        alignments.new ≡ givenIfSound t (keptAlignments t) alignments.old }
-    ensures numbers { verdictNumbers result ≡ numbersOf 0 nothing (soundness (typeTable rows.now members.now entries.now)) }
+    ensures verdict { verdict_of result ≡ soundness (type_table rows.now members.now entries.now) }
+    ensures sizes { let t = type_table rows.now members.now entries.now in
+        sizes.new ≡ given_if_sound t (kept_sizes t) sizes.old }
+    ensures alignments { let t = type_table rows.now members.now entries.now in
+        alignments.new ≡ given_if_sound t (kept_alignments t) alignments.old }
+    ensures numbers { verdict_numbers result ≡ numbers_of 0 nothing (soundness (type_table rows.now members.now entries.now)) }
 {
     let mut own_sizes = [0u32; 256];
     let mut own_alignments = [0u32; 256];
@@ -58,8 +58,8 @@ pub fn prepare(
 
 // The layout of a row; 1, then 2 for a row that does not exist.
 pub fn layout_of(rows: &[u32], members: &[u32], entries: &[u64], row: u32) -> LayoutAnswer
-    ensures answer { answer_of result ≡ layoutAnswer (typeTable rows.now members.now entries.now) row }
-    ensures numbers { answerNumbers result ≡ numbersOf 2 laid (layoutAnswer (typeTable rows.now members.now entries.now) row) }
+    ensures answer { answer_of result ≡ layout_answer (type_table rows.now members.now entries.now) row }
+    ensures numbers { answer_numbers result ≡ numbers_of 2 laid (layout_answer (type_table rows.now members.now entries.now) row) }
 {
     let mut sizes = [0u32; 256];
     let mut alignments = [0u32; 256];

@@ -2,8 +2,8 @@
 ghost use Rattle.std.specs.Prelude.{◌≡◌, ℕ, ◌+◌, ◌*◌, ◌≤◌, max};
 ghost use Rattle.rules.specs.declared.Layout.{Layout};
 ghost use Rattle.rules.specs.Bytes.{round_up};
-ghost use Rattle.rules.specs.TypeTable.{TypeTable, eightByteEnvelopes, typeAs};
-ghost use Rattle.rules.specs.Sizes.{layout, layoutAs};
+ghost use Rattle.rules.specs.TypeTable.{TypeTable, eight_byte_envelopes, type_as};
+ghost use Rattle.rules.specs.Sizes.{layout, layout_as};
 ghost use Rattle.layout.specs.Running.{Alignment, placed, closed};
 
 use rules::Layout;
@@ -64,8 +64,8 @@ pub(crate) fn array_layout(element: Layout, count: u32) -> Layout
 // Vectors, strings, boxes, tables and unions; other kinds have no size.
 fn record_layout(kind: u32) -> Layout
     requires { (kind ≡ 1 → ⊥) × (kind ≡ 2 → ⊥) × (kind ≡ 3 → ⊥) × (kind ≡ 4 → ⊥) × (kind ≡ 7 → ⊥) × (kind ≡ 11 → ⊥) × (kind ≡ 12 → ⊥) }
-    ensures { (t : TypeTable) → t.edition ≡ eightByteEnvelopes → (inner : ℕ → Layout) (a b c : ℕ) →
-        result ≡ layoutAs t inner (typeAs kind a b c) }
+    ensures { (t : TypeTable) → t.edition ≡ eight_byte_envelopes → (inner : ℕ → Layout) (a b c : ℕ) →
+        result ≡ layout_as t inner (type_as kind a b c) }
 {
     match kind {
         5 => Layout {
@@ -99,8 +99,8 @@ fn record_layout(kind: u32) -> Layout
 // rows and numbers are.
 pub(crate) fn fixed_layout(kind: u32, a: u32) -> Layout
     requires { (kind ≡ 4 → ⊥) × (kind ≡ 7 → ⊥) }
-    ensures { (t : TypeTable) → t.edition ≡ eightByteEnvelopes → (inner : ℕ → Layout) (b c : ℕ) →
-        result ≡ layoutAs t inner (typeAs kind a b c) }
+    ensures { (t : TypeTable) → t.edition ≡ eight_byte_envelopes → (inner : ℕ → Layout) (b c : ℕ) →
+        result ≡ layout_as t inner (type_as kind a b c) }
 {
     match kind {
         1 => Layout {

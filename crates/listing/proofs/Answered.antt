@@ -9,29 +9,29 @@ use lib.ListN.{length, take, length-append}
 use lib.Seq.{sets, take-append_seam}
 use Rattle.rules.specs.declared.Fault.{Fault}
 use Rattle.rules.specs.declared.Place.TheVariants.{Byte}
-use Rattle.rules.specs.Refusals.{fault, placeNumber, Answer, accepted, refused, lentAfter, number, place}
-use Rattle.rules.specs.Answers.{Lists, read, numbersOf, bothCounted}
+use Rattle.rules.specs.Refusals.{fault, place_number, Answer, accepted, refused, lent_after, number, place}
+use Rattle.rules.specs.Answers.{Lists, read, numbers_of, both_counted}
 use Rattle.reader.specs.declared.Lengths.{Lengths}
 use Rattle.reader.specs.declared.Reading.{Reading}
 use Rattle.reader.specs.declared.Reading.TheVariants.{Accepted, Refused}
-use Rattle.reader.specs.Answers.{reading_of, readingNumbers, lengthsOf, valuesIn, objectsIn}
+use Rattle.reader.specs.Answers.{reading_of, reading_numbers, lengths_of, values_in, objects_in}
 use Rattle.listing.specs.Lines.{largest, Puts}
-use Rattle.listing.specs.Listing.{messageOf, answered, head, body, listingOf, listing}
+use Rattle.listing.specs.Listing.{message_of, answered, head, body, listing_of, listing}
 use Rattle.listing.proofs.Putting.{puts_then}
 use Rattle.listing.proofs.Enough.{enough}
 
 -- What is left in lists that were lent to the reader, with its answer.
 abbrev pub Read : (answer : Answer Lists) (values objects : List ℕ) (reading : Reading) (values' objects' : List ℕ) → Type 0
 Read answer values objects reading values' objects' =
-    (reading_of reading ≡ lengthsOf answer)
-    × ((values' ≡ lentAfter (valuesIn answer) values)
-    × ((objects' ≡ lentAfter (objectsIn answer) objects) × (readingNumbers reading ≡ numbersOf 2 bothCounted answer)))
+    (reading_of reading ≡ lengths_of answer)
+    × ((values' ≡ lent_after (values_in answer) values)
+    × ((objects' ≡ lent_after (objects_in answer) objects) × (reading_numbers reading ≡ numbers_of 2 both_counted answer)))
 
 -- The lists of an accepted message stand at the start of those that were lent.
 pub record Listed (answer : Answer Lists) (l : Lengths) (values' objects' : List ℕ) : Type 0 where
   pub lists : answer ≡ accepted (record { values = take l.values values'; objects = take l.objects objects' })
-  pub values-within : l.values ≤ length values'
-  pub objects-within : l.objects ≤ length objects'
+  pub values_within : l.values ≤ length values'
+  pub objects_within : l.objects ≤ length objects'
 
 pub listed :
     (answer : Answer Lists) (values objects : List ℕ) {reading : Reading} {values' objects' : List ℕ} {l : Lengths} →
@@ -41,8 +41,8 @@ listed (accepted lists) values objects {l = l} read is =
     let lengths : l ≡ record { values = length lists.values; objects = length lists.objects } = cc in
     record {
       lists = rw (lengths, read.1.0, read.1.1.0, take-append_seam, take-append_seam);
-      values-within = rw (lengths, read.1.0, length-append) (omega arith);
-      objects-within = rw (lengths, read.1.1.0, length-append) (omega arith);
+      values_within = rw (lengths, read.1.0, length-append) (omega arith);
+      objects_within = rw (lengths, read.1.1.0, length-append) (omega arith);
     }
 listed (refused f) values objects read is = let says = read.0 in let z : ◌≡◌ {A = ℕ} 0 1 = cc in absurd (omega arith)
 
@@ -63,40 +63,40 @@ whole : (bytes : List ℕ) {out after : List ℕ} {r most : ℕ} {text : List �
 whole bytes is short put = (rw is (omega (arith, put.ends)), (rw is put.stored, omega (arith, put.within)))
 
 -- by what the rules answer
-listing-is : (bytes : List ℕ) {answer : Answer Lists} → answered bytes ≡ answer → listing bytes ≡ listingOf (length bytes) answer
+listing_is : (bytes : List ℕ) {answer : Answer Lists} → answered bytes ≡ answer → listing bytes ≡ listing_of (length bytes) answer
 unfolding listing
-listing-is bytes is = ap (listingOf (length bytes)) is
+listing_is bytes is = ap (listing_of (length bytes)) is
 
 pub too_long : (bytes : List ℕ) {out after : List ℕ} {r : ℕ}
     → 8192 < length bytes → Puts out 0 (head 3 0) 55 r after → Whole bytes out r after
 too_long bytes long put =
     let e : answered bytes ≡ refused (fault 3 (Byte 0)) = simp (lt-leb _ _ long) in
-    whole bytes (listing-is bytes e ∙ append-nil _) (omega arith) put
+    whole bytes (listing_is bytes e ∙ append-nil _) (omega arith) put
 
 -- the reader's answer is the rules': there is room enough
 abbrev pub Lent : (values objects : List ℕ) → Type 0
 Lent values objects = (8196 ≡ length values) × (8196 ≡ length objects)
 
-answered-is : (bytes values objects : List ℕ) → length bytes ≤ 8192 → Lent values objects
-    → answered bytes ≡ read (messageOf bytes) 4 (length values) (length objects)
-answered-is bytes values objects short lent =
-    simp (le-leb _ _ short) (sym (enough (messageOf bytes) 4 (length values) (length objects) (omega arith) (omega arith)))
+answered_is : (bytes values objects : List ℕ) → length bytes ≤ 8192 → Lent values objects
+    → answered bytes ≡ read (message_of bytes) 4 (length values) (length objects)
+answered_is bytes values objects short lent =
+    simp (le-leb _ _ short) (sym (enough (message_of bytes) 4 (length values) (length objects) (omega arith) (omega arith)))
 
 module _
     (bytes values objects : List ℕ) (short : length bytes ≤ 8192) (lent : Lent values objects)
     (reading : Reading) {values' objects' : List ℕ}
-    (from : Read (read (messageOf bytes) 4 (length values) (length objects)) values objects reading values' objects') where
-  pub listing-refused : {f : Fault} {out after : List ℕ} {r : ℕ}
-      → reading ≡ Refused f → Puts out 0 (head f.number (placeNumber f.place)) 55 r after → Whole bytes out r after
-  listing-refused is put =
-      let e = answered-is bytes values objects short lent ∙ refused-answer _ values objects from is in
-      whole bytes (listing-is bytes e ∙ append-nil _) (omega arith) put
+    (from : Read (read (message_of bytes) 4 (length values) (length objects)) values objects reading values' objects') where
+  pub listing_refused : {f : Fault} {out after : List ℕ} {r : ℕ}
+      → reading ≡ Refused f → Puts out 0 (head f.number (place_number f.place)) 55 r after → Whole bytes out r after
+  listing_refused is put =
+      let e = answered_is bytes values objects short lent ∙ refused-answer _ values objects from is in
+      whole bytes (listing_is bytes e ∙ append-nil _) (omega arith) put
 
-  pub listing-accepted : {l : Lengths} {out mid after : List ℕ} {next r most : ℕ}
+  pub listing_accepted : {l : Lengths} {out mid after : List ℕ} {next r most : ℕ}
       → reading ≡ Accepted l → most ≤ 524233
       → Puts out 0 (head 0 0) 55 next mid
       → Puts mid next (body (length bytes) (record { values = take l.values values'; objects = take l.objects objects' })) most r after
       → Whole bytes out r after
-  listing-accepted is few head-put lists-put =
-      let e = answered-is bytes values objects short lent ∙ (listed _ values objects from is).lists in
-      whole bytes (listing-is bytes e) (omega arith) (puts_then head-put lists-put)
+  listing_accepted is few head-put lists-put =
+      let e = answered_is bytes values objects short lent ∙ (listed _ values objects from is).lists in
+      whole bytes (listing_is bytes e) (omega arith) (puts_then head-put lists-put)

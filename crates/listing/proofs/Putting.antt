@@ -9,15 +9,15 @@ use native.Mathlib.Omega.{arith}
 use lib.ListN.{length, length-append, drop, get_or, drop_of_length-le}
 use lib.Seq.{sets, length-sets, drop-cons}
 use Rattle.rules.specs.Bytes.{bytes_of}
-use Rattle.words.proofs.Stores.{sets-append, bytesOf-byte}
-use Rattle.listing.specs.Lines.{decimal, line, value=, objectAt, objectLines, valueLines, largest, Puts}
-use Rattle.listing.proofs.Digits.{decimal-small, decimal_step, decimal-short}
+use Rattle.words.proofs.Stores.{sets_append, bytes_of_byte}
+use Rattle.listing.specs.Lines.{decimal, line, value=, object_at, object_lines, value_lines, largest, Puts}
+use Rattle.listing.proofs.Digits.{decimal_small, decimal_step, decimal_short}
 
 pub byte_put :
     {lent after : List ℕ} {at byte : ℕ} → byte < 256 → after ≡ sets lent at (bytes_of 1 byte) →
     Puts lent at (byte ∷ []) 1 (at + 1) after
 byte_put {byte = byte} small stored =
-    record { stored = rw (stored, bytesOf-byte byte small); ends = refl; within = omega arith }
+    record { stored = rw (stored, bytes_of_byte byte small); ends = refl; within = omega arith }
 
 module _ {lent after : List ℕ} {at most next : ℕ} {first : List ℕ} (put : Puts lent at first most next after) where
   -- one text after the other
@@ -26,24 +26,24 @@ module _ {lent after : List ℕ} {at most next : ℕ} {first : List ℕ} (put : 
       Puts after next second more end last → Puts lent at (first ++ second) (most + more) end last
   puts_then {second = second} then =
       record {
-        stored = rw (then.stored, put.stored, put.ends) (sets-append lent at first second);
+        stored = rw (then.stored, put.stored, put.ends) (sets_append lent at first second);
         ends = omega (arith, put.ends, then.ends, length-append first second);
         within = omega (arith, put.within, then.within);
       }
 
   -- within more bytes, or within fewer where the text is known to be short
-  pub puts-wider : {more : ℕ} → most ≤ more → Puts lent at first more next after
-  puts-wider wider = record { stored = put.stored; ends = put.ends; within = omega (arith, put.within) }
+  pub puts_wider : {more : ℕ} → most ≤ more → Puts lent at first more next after
+  puts_wider wider = record { stored = put.stored; ends = put.ends; within = omega (arith, put.within) }
 
-  pub puts-short : {fewer : ℕ} → length first ≤ fewer → Puts lent at first fewer next after
-  puts-short short = record { stored = put.stored; ends = put.ends; within = omega (arith, put.ends) }
+  pub puts_short : {fewer : ℕ} → length first ≤ fewer → Puts lent at first fewer next after
+  puts_short short = record { stored = put.stored; ends = put.ends; within = omega (arith, put.ends) }
 
 -- ---- numbers
 
 pub digit-put :
     {lent after : List ℕ} {at next : ℕ} (n : ℕ) → n < 10 →
     Puts lent at ((48 + n) ∷ []) 1 next after → Puts lent at (decimal n) 20 next after
-digit-put n small put = rw (decimal-small n small) (puts-short put (omega arith))
+digit-put n small put = rw (decimal_small n small) (puts_short put (omega arith))
 
 pub number_put :
     {lent mid after : List ℕ} {at next last : ℕ} (n : ℕ) → 10 ≤ n → n < 18446744073709551616 →
@@ -51,7 +51,7 @@ pub number_put :
     Puts lent at (decimal n) 20 last after
 number_put {lent} {after = after} {at = at} {last = last} n large wide first digit =
     let put : Puts lent at (decimal n) 21 last after = rw (decimal_step n large) (puts_then first digit) in
-    puts-short put (decimal-short n wide)
+    puts_short put (decimal_short n wide)
 
 -- ---- loops
 
@@ -74,7 +74,7 @@ module _
       Goes lent at text most later then rest fewer
   goes_on is takes put =
       record {
-        whole = λ end last rest. goes.whole end last (rw is (puts-wider (puts_then put rest) takes));
+        whole = λ end last rest. goes.whole end last (rw is (puts_wider (puts_then put rest) takes));
         room = omega (arith, goes.room, put.within);
         long = rw (put.stored, length-sets) goes.long;
       }
@@ -89,20 +89,20 @@ byte_left text i inside = rw (add-one, drop-cons text i 0)
 -- of values,
 pub value-left :
     (values : List ℕ) (i : ℕ) → i < length values →
-    valueLines (drop i values) ≡ line value= (get_or values i 0) ++ valueLines (drop (i + 1) values)
-unfolding valueLines
+    value_lines (drop i values) ≡ line value= (get_or values i 0) ++ value_lines (drop (i + 1) values)
+unfolding value_lines
 value-left values i inside = rw (add-one, drop-cons values i 0)
 
-pub values-end : (values : List ℕ) (i : ℕ) → length values ≤ i → valueLines (drop i values) ≡ []
-unfolding valueLines
-values-end values i past = rw (drop_of_length-le values past)
+pub values_end : (values : List ℕ) (i : ℕ) → length values ≤ i → value_lines (drop i values) ≡ []
+unfolding value_lines
+values_end values i past = rw (drop_of_length-le values past)
 
 -- and of objects, four numbers each.
 pub object-left :
     (objects : List ℕ) (i : ℕ) → i + 4 ≤ length objects →
-    objectLines (drop i objects)
-    ≡ objectAt objects i ++ objectLines (drop (i + 4) objects)
-unfolding objectLines
+    object_lines (drop i objects)
+    ≡ object_at objects i ++ object_lines (drop (i + 4) objects)
+unfolding object_lines
 object-left (k ∷ r ∷ o ∷ l ∷ objects) zero inside = refl
 object-left (k ∷ objects) (suc i) inside = rw (suc-add, suc-add, suc-add, suc-add) (object-left objects i (omega arith))
 object-left [] i inside = absurd (omega arith)
@@ -110,12 +110,12 @@ object-left (k ∷ []) zero inside = absurd (omega arith)
 object-left (k ∷ r ∷ []) zero inside = absurd (omega arith)
 object-left (k ∷ r ∷ o ∷ []) zero inside = absurd (omega arith)
 
-pub objects-end : (objects : List ℕ) (i : ℕ) → length objects < i + 4 → objectLines (drop i objects) ≡ []
-unfolding objectLines
-objects-end [] zero few = refl
-objects-end (k ∷ []) zero few = refl
-objects-end (k ∷ r ∷ []) zero few = refl
-objects-end (k ∷ r ∷ o ∷ []) zero few = refl
-objects-end (k ∷ r ∷ o ∷ l ∷ objects) zero few = absurd (omega arith)
-objects-end [] (suc i) few = refl
-objects-end (k ∷ objects) (suc i) few = objects-end objects i (omega arith)
+pub objects_end : (objects : List ℕ) (i : ℕ) → length objects < i + 4 → object_lines (drop i objects) ≡ []
+unfolding object_lines
+objects_end [] zero few = refl
+objects_end (k ∷ []) zero few = refl
+objects_end (k ∷ r ∷ []) zero few = refl
+objects_end (k ∷ r ∷ o ∷ []) zero few = refl
+objects_end (k ∷ r ∷ o ∷ l ∷ objects) zero few = absurd (omega arith)
+objects_end [] (suc i) few = refl
+objects_end (k ∷ objects) (suc i) few = objects_end objects i (omega arith)

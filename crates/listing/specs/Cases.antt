@@ -4,7 +4,7 @@ use Rattle.std.specs.Prelude.{◌≡◌, List, [], ◌∷◌, ◌++◌, ℕ}
 use Prim.Native.Char.{code}
 use Prim.Native.String as S
 use Rattle.rules.specs.Cases.{p1}
-use Rattle.listing.specs.Lines.{lineFeed}
+use Rattle.listing.specs.Lines.{line_feed}
 use Rattle.listing.specs.Listing.{listing}
 
 -- The bytes of text in ASCII, and of lines of it.
@@ -12,12 +12,12 @@ unfoldable pub ascii : S.String → List ℕ
 ascii S.[] = []
 ascii (S.◌∷◌ c text) = code c ∷ ascii text
 
-unfoldable pub asciiLines : List S.String → List ℕ
-asciiLines [] = []
-asciiLines (line ∷ lines) = ascii line ++ (lineFeed ++ asciiLines lines)
+unfoldable pub ascii_lines : List S.String → List ℕ
+ascii_lines [] = []
+ascii_lines (line ∷ lines) = ascii line ++ (line_feed ++ ascii_lines lines)
 
-abbrev pub p1Lines : List S.String
-p1Lines =
+abbrev pub p1_lines : List S.String
+p1_lines =
     "result=0"
     ∷ "place=0"
     ∷ "bytes=32"
@@ -35,4 +35,4 @@ p1Lines =
     ∷ []
 
 abbrev pub P1Listed : Type 0
-P1Listed = listing p1 ≡ asciiLines p1Lines
+P1Listed = listing p1 ≡ ascii_lines p1_lines

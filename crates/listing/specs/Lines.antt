@@ -7,19 +7,19 @@ use Rattle.rules.specs.Refusals.{if◌then◌else◌}
 -- ---- numbers
 
 -- A number in decimal digits, at most so many: those of its quotient by ten, then its last one. The digit 0 is byte 48.
-unfoldable pub digitsWithin : (most n : ℕ) → List ℕ
-digitsWithin zero n = []
-digitsWithin (suc most) n =
-    if ltb n 10 then (48 + n) ∷ [] else digitsWithin most (n / 10) ++ ((48 + n % 10) ∷ [])
+unfoldable pub digits_within : (most n : ℕ) → List ℕ
+digits_within zero n = []
+digits_within (suc most) n =
+    if ltb n 10 then (48 + n) ∷ [] else digits_within most (n / 10) ++ ((48 + n % 10) ∷ [])
 
 -- No number has more digits than its value and one.
 unfoldable pub decimal : ℕ → List ℕ
-decimal n = digitsWithin (suc n) n
+decimal n = digits_within (suc n) n
 
 -- ---- lines
 
-abbrev pub lineFeed : List ℕ
-lineFeed = 10 ∷ []
+abbrev pub line_feed : List ℕ
+line_feed = 10 ∷ []
 
 abbrev pub comma : List ℕ
 comma = 44 ∷ []
@@ -28,7 +28,7 @@ abbrev pub labelled : (label : List ℕ) (n : ℕ) → List ℕ
 labelled label n = label ++ decimal n
 
 abbrev pub line : (label : List ℕ) (n : ℕ) → List ℕ
-line label n = labelled label n ++ lineFeed
+line label n = labelled label n ++ line_feed
 
 -- The labels, in ASCII: `result=`, `place=`,
 abbrev pub result= : List ℕ
@@ -58,27 +58,27 @@ abbrev pub value= : List ℕ
 value= = 118 ∷ 97 ∷ 108 ∷ 117 ∷ 101 ∷ 61 ∷ []
 
 -- Kind, row, offset and length of an object.
-abbrev pub objectLine : (kind row offset size : ℕ) → List ℕ
-objectLine kind row offset size =
-    labelled object= kind ++ (labelled comma row ++ (labelled comma offset ++ (labelled comma size ++ lineFeed)))
+abbrev pub object_line : (kind row offset size : ℕ) → List ℕ
+object_line kind row offset size =
+    labelled object= kind ++ (labelled comma row ++ (labelled comma offset ++ (labelled comma size ++ line_feed)))
 
 -- A line for each four numbers of an object list,
-unfoldable pub objectLines : List ℕ → List ℕ
-objectLines [] = []
-objectLines (kind ∷ []) = []
-objectLines (kind ∷ row ∷ []) = []
-objectLines (kind ∷ row ∷ offset ∷ []) = []
-objectLines (kind ∷ row ∷ offset ∷ size ∷ objects) = objectLine kind row offset size ++ objectLines objects
+unfoldable pub object_lines : List ℕ → List ℕ
+object_lines [] = []
+object_lines (kind ∷ []) = []
+object_lines (kind ∷ row ∷ []) = []
+object_lines (kind ∷ row ∷ offset ∷ []) = []
+object_lines (kind ∷ row ∷ offset ∷ size ∷ objects) = object_line kind row offset size ++ object_lines objects
 
 -- (the object whose numbers stand from a place of the list on),
-abbrev pub objectAt : (objects : List ℕ) (i : ℕ) → List ℕ
-objectAt objects i =
-    objectLine (get_or objects i 0) (get_or objects (i + 1) 0) (get_or objects (i + 2) 0) (get_or objects (i + 3) 0)
+abbrev pub object_at : (objects : List ℕ) (i : ℕ) → List ℕ
+object_at objects i =
+    object_line (get_or objects i 0) (get_or objects (i + 1) 0) (get_or objects (i + 2) 0) (get_or objects (i + 3) 0)
 
 -- and a line for each number of a value list.
-unfoldable pub valueLines : List ℕ → List ℕ
-valueLines [] = []
-valueLines (value ∷ values) = line value= value ++ valueLines values
+unfoldable pub value_lines : List ℕ → List ℕ
+value_lines [] = []
+value_lines (value ∷ values) = line value= value ++ value_lines values
 
 -- ---- output
 

@@ -3,7 +3,7 @@ mod lines;
 
 ghost use Rattle.std.specs.Prelude.{◌≡◌, ◌+◌, ◌*◌, ◌/◌, ◌≤◌, length};
 ghost use Rattle.std.proofs.lemmas.List.Edits.{sets};
-ghost use Rattle.rules.specs.Refusals.{placeNumber};
+ghost use Rattle.rules.specs.Refusals.{place_number};
 ghost use Rattle.listing.specs.Lines.{largest, Puts};
 ghost use Rattle.listing.specs.Listing.{head, counts, body, listing as listing-of};
 
@@ -30,7 +30,7 @@ fn put_head(out: &mut [u8], number: u32, place: u64) -> usize
 }
 
 fn put_refusal(out: &mut [u8], f: Fault) -> usize
-    ensures { Puts out.old 0 (head f.number (placeNumber f.place)) 55 result out.new }
+    ensures { Puts out.old 0 (head f.number (place_number f.place)) 55 result out.new }
 {
     put_head(out, f.number, place_number(f))
 }

@@ -1,7 +1,7 @@
 // Text put into a lent output from a place on. What there is no room for is left out; each function answers the place
 // after its text all the same. That a place is at most `largest` keeps the sums from wrapping.
 ghost use Rattle.std.specs.Prelude.{[], ◌∷◌, ◌+◌, ◌*◌, ◌≤◌, length, get_or};
-ghost use Rattle.listing.specs.Lines.{decimal, labelled, line, objectAt, objectLines, value=, valueLines, largest, Puts};
+ghost use Rattle.listing.specs.Lines.{decimal, labelled, line, object_at, object_lines, value=, value_lines, largest, Puts};
 
 fn put_byte(out: &mut [u8], at: usize, byte: u8) -> usize
     requires { at ≤ largest }
@@ -62,7 +62,7 @@ fn put_field(out: &mut [u8], at: usize, label: &[u8], numbers: &[u32], i: usize)
 // The object whose four numbers stand from a place of the list on.
 fn put_object(out: &mut [u8], at: usize, objects: &[u32], i: usize) -> usize
     requires { (at + 91 ≤ largest) × (i + 4 ≤ length objects.now) }
-    ensures { Puts out.old at (objectAt objects.now i) 91 result out.new }
+    ensures { Puts out.old at (object_at objects.now i) 91 result out.new }
 {
     let after_kind = put_field(out, at, b"object=", objects, i);
     let after_row = put_field(out, after_kind, b",", objects, i + 1);
@@ -74,7 +74,7 @@ fn put_object(out: &mut [u8], at: usize, objects: &[u32], i: usize) -> usize
 // 91 bytes for four numbers are less than 23 for each.
 pub(crate) fn put_objects(out: &mut [u8], at: usize, objects: &[u32]) -> usize
     requires { at + 23 * length objects.now ≤ largest }
-    ensures { Puts out.old at (objectLines objects.now) (23 * length objects.now) result out.new }
+    ensures { Puts out.old at (object_lines objects.now) (23 * length objects.now) result out.new }
 {
     let mut next = at;
     let mut i = 0;
@@ -94,7 +94,7 @@ fn put_value(out: &mut [u8], at: usize, value: u64) -> usize
 
 pub(crate) fn put_values(out: &mut [u8], at: usize, values: &[u64]) -> usize
     requires { at + 27 * length values.now ≤ largest }
-    ensures { Puts out.old at (valueLines values.now) (27 * length values.now) result out.new }
+    ensures { Puts out.old at (value_lines values.now) (27 * length values.now) result out.new }
 {
     let mut next = at;
     let mut i = 0;

@@ -4,13 +4,13 @@ use mathlib.Core.Bool.{Bool, true, false}
 use mathlib.Core.List.{List, [], ◌∷◌, ◌++◌}
 use mathlib.Core.Path.{◌≡◌}
 use Prim.Native.Nat.{ℕ, ◌+◌, ◌≤◌, ◌<◌}
-use Rattle.rules.specs.TypeTable.{TypeTable, bAt}
-use Rattle.rules.specs.Sizes.{layout_of, size_of, fieldsSize}
+use Rattle.rules.specs.TypeTable.{TypeTable, b_at}
+use Rattle.rules.specs.Sizes.{layout_of, size_of, fields_size}
 use Rattle.nesting.specs.declared.Level.{Level}
-use Rattle.nesting.specs.Nesting.{hasParts, nextPlace}
+use Rattle.nesting.specs.Nesting.{has_parts, next_place}
 use Rattle.nesting.proofs.Items.{Item, items_of}
-use Rattle.nesting.proofs.Left.{advanced, fieldsLeft}
-use Rattle.nesting.proofs.Around.{leftAround}
+use Rattle.nesting.proofs.Left.{advanced, fields_left}
+use Rattle.nesting.proofs.Around.{left_around}
 
 -- Where a struct or an array ends.
 abbrev pub end_of : (t : TypeTable) → Level → ℕ
@@ -19,20 +19,20 @@ end_of t l = l.at + size_of t l.row
 -- One whose next part starts at a place: what is left of it takes it to its end.
 pub record Running (t : TypeTable) (top : ℕ) (l : Level) (place : ℕ) : Type 0 where
   pub inside : l.row ≤ top
-  pub parts : hasParts t.rows l.row ≡ true
-  pub done : l.done ≤ bAt t l.row
+  pub parts : has_parts t.rows l.row ≡ true
+  pub done : l.done ≤ b_at t l.row
   pub from : l.at ≤ place
-  pub ends : place + fieldsSize (layout_of t) (fieldsLeft t l place) ≡ end_of t l
+  pub ends : place + fields_size (layout_of t) (fields_left t l place) ≡ end_of t l
 
 module _ (t : TypeTable) (alignments : List ℕ) (top : ℕ) where
   -- One of which a part stops at a place, with the fill after it to come.
   pub record Paused (l : Level) (stop : ℕ) : Type 0 where
     pub inside : l.row ≤ top
-    pub parts : hasParts t.rows l.row ≡ true
-    pub done : l.done < bAt t l.row
+    pub parts : has_parts t.rows l.row ≡ true
+    pub done : l.done < b_at t l.row
     pub from : l.at ≤ stop
-    pub on : stop ≤ nextPlace t.rows t.members l alignments stop
-    pub ends : nextPlace t.rows t.members l alignments stop + fieldsSize (layout_of t) (fieldsLeft t (advanced l) (nextPlace t.rows t.members l alignments stop))
+    pub on : stop ≤ next_place t.rows t.members l alignments stop
+    pub ends : next_place t.rows t.members l alignments stop + fields_size (layout_of t) (fields_left t (advanced l) (next_place t.rows t.members l alignments stop))
         ≡ end_of t l
 
   -- Each of them is a part of the next.
@@ -48,11 +48,11 @@ module _ {t : TypeTable} {alignments : List ℕ} {top : ℕ} {l : Level} {around
   pub chain_first : Chain t alignments top (l ∷ around) stop → Paused t alignments top l stop
   chain_first (within p q) = p
 
-  pub chain-rest : Chain t alignments top (l ∷ around) stop → Chain t alignments top around (end_of t l)
-  chain-rest (within p q) = q
+  pub chain_rest : Chain t alignments top (l ∷ around) stop → Chain t alignments top around (end_of t l)
+  chain_rest (within p q) = q
 
 -- What is left of them all.
 abbrev pub left_of : (t : TypeTable) (alignments : List ℕ) (due : Bool) (l : Level) (around : List Level) (place : ℕ) → List Item
-left_of t alignments true l around place = leftAround t alignments (l ∷ around) place
+left_of t alignments true l around place = left_around t alignments (l ∷ around) place
 left_of t alignments false l around place =
-    items_of (fieldsLeft t l place) ++ leftAround t alignments around (end_of t l)
+    items_of (fields_left t l place) ++ left_around t alignments around (end_of t l)

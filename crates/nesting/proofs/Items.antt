@@ -7,7 +7,7 @@ use Prim.Native.Nat.{ℕ, zero, suc, ◌+◌, ◌*◌}
 use native.Mathlib.Nat.{suc-mul}
 use native.Mathlib.Omega.{arith}
 use Rattle.rules.specs.declared.Layout.{Layout}
-use Rattle.rules.specs.Sizes.{Field, field, fieldsSize}
+use Rattle.rules.specs.Sizes.{Field, field, fields_size}
 
 -- A value of a row, or fill.
 pub data Item : Type 0 where
@@ -24,29 +24,29 @@ copies zero row = []
 copies (suc count) row = field row 0 ∷ copies count row
 
 module _ (layouts : ℕ → Layout) where
-  abbrev pub sizeOfItem : Item → ℕ
-  sizeOfItem (value row) = (layouts row).size
-  sizeOfItem (gap bytes) = bytes
+  abbrev pub size_of_item : Item → ℕ
+  size_of_item (value row) = (layouts row).size
+  size_of_item (gap bytes) = bytes
 
-  unfoldable pub sizeOfItems : List Item → ℕ
-  sizeOfItems [] = 0
-  sizeOfItems (i ∷ is) = sizeOfItem i + sizeOfItems is
+  unfoldable pub size_of_items : List Item → ℕ
+  size_of_items [] = 0
+  size_of_items (i ∷ is) = size_of_item i + size_of_items is
 
-  pub fields-size : (fs : List Field) → sizeOfItems (items_of fs) ≡ fieldsSize layouts fs
-  unfolding fieldsSize sizeOfItems items_of
-  fields-size [] = refl
-  fields-size (field row fill ∷ fs) = rw (fields-size fs)
+  pub fields_size_lem : (fs : List Field) → size_of_items (items_of fs) ≡ fields_size layouts fs
+  unfolding fields_size size_of_items items_of
+  fields_size_lem [] = refl
+  fields_size_lem (field row fill ∷ fs) = rw (fields_size_lem fs)
 
-  pub copies-size : (count row : ℕ) → sizeOfItems (items_of (copies count row)) ≡ count * (layouts row).size
-  unfolding sizeOfItems items_of copies
-  copies-size zero row = omega arith
-  copies-size (suc count) row = rw (copies-size count row, suc-mul) (omega arith)
+  pub copies_size : (count row : ℕ) → size_of_items (items_of (copies count row)) ≡ count * (layouts row).size
+  unfolding size_of_items items_of copies
+  copies_size zero row = omega arith
+  copies_size (suc count) row = rw (copies_size count row, suc-mul) (omega arith)
 
-  pub sizes-append : (is js : List Item) → sizeOfItems (is ++ js) ≡ sizeOfItems is + sizeOfItems js
-  unfolding sizeOfItems
-  sizes-append [] js = omega arith
-  sizes-append (i ∷ is) js = rw (sizes-append is js) (omega arith)
+  pub sizes_append : (is js : List Item) → size_of_items (is ++ js) ≡ size_of_items is + size_of_items js
+  unfolding size_of_items
+  sizes_append [] js = omega arith
+  sizes_append (i ∷ is) js = rw (sizes_append is js) (omega arith)
 
-  pub into-size : (row : ℕ) (is rest : List Item) → (layouts row).size ≡ sizeOfItems is → sizeOfItems (value row ∷ rest) ≡ sizeOfItems (is ++ rest)
-  unfolding sizeOfItems
-  into-size row is rest s = rw s (sym (sizes-append is rest))
+  pub into_size : (row : ℕ) (is rest : List Item) → (layouts row).size ≡ size_of_items is → size_of_items (value row ∷ rest) ≡ size_of_items (is ++ rest)
+  unfolding size_of_items
+  into_size row is rest s = rw s (sym (sizes_append is rest))

@@ -1,6 +1,6 @@
 // Structs and arrays nested in line, one member or element at a time: what comes next in one of them, and where.
 ghost use Rattle.std.specs.Prelude.{◌≡◌, ◌≤◌, ◌<◌};
-ghost use Rattle.nesting.specs.Nesting.{nextOffset, hasParts, nextPart, nextPlace, nextStep};
+ghost use Rattle.nesting.specs.Nesting.{next_offset, has_parts, next_part, next_place, next_step};
 
 // So many structs and arrays, each within the one before it, are walked or written by one call; a call of its own takes
 // what is nested deeper.
@@ -28,7 +28,7 @@ pub enum Step {
 // Whether a row's value is made of values that come one by one: a struct that has members, or an array of anything but
 // numbers.
 pub fn has_parts(rows: &[u32], row: usize) -> bool
-    ensures { result ≡ hasParts rows.now row }
+    ensures { result ≡ has_parts rows.now row }
 {
     if 256 <= row {
         return false;
@@ -49,7 +49,7 @@ fn next_offset(
     offset: u32,
 ) -> usize
     requires { member < 281474976710656 }
-    ensures { (result ≡ nextOffset members.now alignments.now row member end offset) × (result < 8589934592) }
+    ensures { (result ≡ next_offset members.now alignments.now row member end offset) × (result < 8589934592) }
 {
     if member + 1 == end {
         return words::round_up(offset, words::number_at(alignments, row)) as usize;
@@ -61,7 +61,7 @@ fn next_offset(
 // The row of the member or element that comes next in it.
 pub fn next_part(rows: &[u32], members: &[u32], level: Level) -> usize
     requires { (level.row < 256) × (level.done < 65536) }
-    ensures { (result ≡ nextPart rows.now members.now level) × (result < 4294967296) }
+    ensures { (result ≡ next_part rows.now members.now level) × (result < 4294967296) }
 {
     let a = table::a_at(rows, level.row) as usize;
     if table::kind_at(rows, level.row) == 7 {
@@ -79,7 +79,7 @@ pub fn next_place(
     stop: usize,
 ) -> usize
     requires { (level.row < 256) × (level.done < 65536) × (level.at ≤ stop) × (stop ≤ 65536) }
-    ensures { result ≡ nextPlace rows.now members.now level alignments.now stop }
+    ensures { result ≡ next_place rows.now members.now level alignments.now stop }
 {
     if table::kind_at(rows, level.row) == 4 {
         return stop;
@@ -108,7 +108,7 @@ pub fn next_step(
     place: usize,
     around: usize,
 ) -> Step
-    ensures { result ≡ nextStep rows.now members.now level alignments.now due place around }
+    ensures { result ≡ next_step rows.now members.now level alignments.now due place around }
 {
     let possible = (level.row < 256)
         & (level.done < 65536)

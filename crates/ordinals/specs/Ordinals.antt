@@ -2,39 +2,39 @@
 -- Assumes nothing.
 use Rattle.std.specs.Prelude.{◌||◌, List, ◌≡◌, ℕ, zero, suc, ◌+◌, ◌*◌, ◌/◌, ◌<◌, ltb, eqb}
 use Rattle.rules.specs.Refusals.{if◌then◌else◌}
-use Rattle.rules.specs.TypeTable.{TypeTable, ordinalIn, row_in, rowCount, Content, known, unknown, contentOf}
+use Rattle.rules.specs.TypeTable.{TypeTable, ordinal_in, row_in, row_count, Content, known, unknown, content_of}
 use Rattle.ordinals.specs.declared.Ordinal.{Ordinal}
 use Rattle.ordinals.specs.declared.Ordinal.TheVariants.{Known, Unknown}
 
-abbrev pub ordinalIs : Ordinal → Content
-ordinalIs (Known row) = known row
-ordinalIs Unknown = unknown
+abbrev pub ordinal_is : Ordinal → Content
+ordinal_is (Known row) = known row
+ordinal_is Unknown = unknown
 
 -- What an ordinal stands for by the members alone: under every type table that has them.
 abbrev pub ContentIs : (members : List ℕ) (first count ordinal : ℕ) → Ordinal → Type 0
-ContentIs members first count ordinal what = (t : TypeTable) → t.members ≡ members → ordinalIs what ≡ contentOf t first count ordinal
+ContentIs members first count ordinal what = (t : TypeTable) → t.members ≡ members → ordinal_is what ≡ content_of t first count ordinal
 
 -- Between `low` and `high`, in at most so many steps.
-unfoldable pub halvedIn : (members : List ℕ) (ordinal steps low high : ℕ) → Content
-halvedIn members ordinal zero low high = unknown
-halvedIn members ordinal (suc steps) low high =
+unfoldable pub halved_in : (members : List ℕ) (ordinal steps low high : ℕ) → Content
+halved_in members ordinal zero low high = unknown
+halved_in members ordinal (suc steps) low high =
     if ltb low high then (
-    if eqb (ordinalIn members ((low + high) / 2)) ordinal then known (row_in members ((low + high) / 2))
-    else if ltb (ordinalIn members ((low + high) / 2)) ordinal then halvedIn members ordinal steps ((low + high) / 2 + 1) high
-    else halvedIn members ordinal steps low ((low + high) / 2)
+    if eqb (ordinal_in members ((low + high) / 2)) ordinal then known (row_in members ((low + high) / 2))
+    else if ltb (ordinal_in members ((low + high) / 2)) ordinal then halved_in members ordinal steps ((low + high) / 2 + 1) high
+    else halved_in members ordinal steps low ((low + high) / 2)
     ) else unknown
 
 -- Among so many members from `first` on. A type table has at most 1,024: past that nothing is known. Where the ordinals
--- rise this is `contentOf` of the rules (proofs/Ordinals.antt).
+-- rise this is `content_of` of the rules (proofs/Ordinals.antt).
 abbrev pub halved : (members : List ℕ) (ordinal first count : ℕ) → Content
 halved members ordinal first count =
-    if ltb 1024 first || ltb 1024 count then unknown else halvedIn members ordinal (suc count) first (first + count)
+    if ltb 1024 first || ltb 1024 count then unknown else halved_in members ordinal (suc count) first (first + count)
 
 -- The ordinals of so many members rise strictly, as in a sound table or union.
 abbrev pub Rising : (members : List ℕ) (first count : ℕ) → Type 0
-Rising members first count = (i j : ℕ) → i < j → j < count → ordinalIn members (first + i) < ordinalIn members (first + j)
+Rising members first count = (i j : ℕ) → i < j → j < count → ordinal_in members (first + i) < ordinal_in members (first + j)
 
 -- A known member's row is in use.
 abbrev pub OrdinalFits : TypeTable → Ordinal → Type 0
-OrdinalFits t (Known row) = row < rowCount t
+OrdinalFits t (Known row) = row < row_count t
 OrdinalFits t Unknown = Unit {0}

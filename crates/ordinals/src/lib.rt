@@ -1,6 +1,6 @@
 // What an ordinal stands for in a table or a union.
 ghost use Rattle.std.specs.Prelude.{◌≡◌};
-ghost use Rattle.ordinals.specs.Ordinals.{ordinalIs, halved};
+ghost use Rattle.ordinals.specs.Ordinals.{ordinal_is, halved};
 
 // What an ordinal stands for: the row of a table's or union's member, or content that the type does not know.
 #[derive(Drop)]
@@ -12,7 +12,7 @@ pub enum Ordinal {
 // The member that has an ordinal, searched by halves, so that a long table costs no more than a short one: the first
 // `count` members from `first` on have rising ordinals in a sound type table.
 pub fn ordinal_of(members: &[u32], first: usize, count: usize, ordinal: u64) -> Ordinal
-    ensures { ordinalIs result ≡ halved members.now ordinal first count }
+    ensures { ordinal_is result ≡ halved members.now ordinal first count }
 {
     if (1024 < first) | (1024 < count) {
         return Ordinal::Unknown;

@@ -1,6 +1,6 @@
 // Flat values, which are bools and numbers alone: the plan that one or many of them are read and written by.
 ghost use Rattle.std.specs.Prelude.{[], ◌≡◌, ◌+◌, ◌-◌, ◌≤◌, ◌<◌};
-ghost use Rattle.plans.specs.Plans.{flatWidth, widthSize, flatMembers, plan_of, planAs};
+ghost use Rattle.plans.specs.Plans.{flat_width, width_size, flat_members, plan_of, plan_as};
 
 use nesting::{Level, next_part, next_place};
 
@@ -15,7 +15,7 @@ pub struct Plan {
 
 // The width of a row's value in a plan; 9 where a plan can't have it.
 fn flat_width(rows: &[u32], row: usize) -> u32
-    ensures { result ≡ flatWidth rows.now row }
+    ensures { result ≡ flat_width rows.now row }
 {
     let kind = table::kind_at(rows, row);
     if kind == 1 {
@@ -29,7 +29,7 @@ fn flat_width(rows: &[u32], row: usize) -> u32
 
 // The bytes that a part of a plan takes.
 pub fn width_size(width: u32) -> usize
-    ensures { result ≡ widthSize width }
+    ensures { result ≡ width_size width }
 {
     if width == 0 { 1 } else { width as usize }
 }
@@ -50,7 +50,7 @@ fn flat_members(
     count: usize,
 ) -> Plan
     requires { (row < 256) × (count ≤ 16) }
-    ensures { result ≡ planAs (flatMembers rows.now members.now alignments.now row count) }
+    ensures { result ≡ plan_as (flat_members rows.now members.now alignments.now row count) }
 {
     let mut widths: [u32; 16] = [0; 16];
     let mut fills: [u32; 16] = [0; 16];
@@ -85,7 +85,7 @@ fn flat_members(
 }
 
 fn no_plan() -> Plan
-    ensures { result ≡ planAs [] }
+    ensures { result ≡ plan_as [] }
 {
     Plan {
         count: 0,
@@ -96,7 +96,7 @@ fn no_plan() -> Plan
 
 // The plan of a row's value.
 pub fn plan_of(rows: &[u32], members: &[u32], alignments: &[u32; 256], row: usize) -> Plan
-    ensures { result ≡ planAs (plan_of rows.now members.now alignments.now row) }
+    ensures { result ≡ plan_as (plan_of rows.now members.now alignments.now row) }
 {
     if 256 <= row {
         return no_plan();

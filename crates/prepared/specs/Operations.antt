@@ -2,12 +2,12 @@
 -- Assumes nothing.
 use Rattle.std.specs.Prelude.{Bool, ◌&&◌, List, [], ℕ, ◌*◌, leb, length, take}
 use Rattle.rules.specs.declared.Place.TheVariants.{Row}
-use Rattle.rules.specs.Refusals.{tableNotSound, fault, Answer, accepted, refused, require, and_then}
-use Rattle.rules.specs.TypeTable.{TypeTable, rowCount, memberCount}
+use Rattle.rules.specs.Refusals.{table_not_sound, fault, Answer, accepted, refused, require, and_then}
+use Rattle.rules.specs.TypeTable.{TypeTable, row_count, member_count}
 use Rattle.layout.specs.declared.Soundness.TheVariants.{Sound, Refused}
 use Rattle.prepared.specs.declared.State.{State}
 use Rattle.prepared.specs.declared.Prepared.{Prepared}
-use Rattle.prepared.specs.States.{start, preparedOf, requireAgreement}
+use Rattle.prepared.specs.States.{start, prepared_of, require_agreement}
 
 -- How many rows, members and entries are in use, or are gone back to.
 pub record Counts : Type 0 where
@@ -18,8 +18,8 @@ pub record Counts : Type 0 where
 abbrev pub counts : (rows members entries : ℕ) → Counts
 counts rows members entries = record { rows = rows; members = members; entries = entries }
 
-abbrev pub countsOf : State → Counts
-countsOf s = counts s.rows s.members s.entries
+abbrev pub counts_of : State → Counts
+counts_of s = counts s.rows s.members s.entries
 
 -- "the lists cut to" counts
 abbrev pub cut_to : Counts → TypeTable → TypeTable
@@ -29,19 +29,19 @@ cut_to n t =
 -- "append a batch of rows, members and entries (at the end of the lists handed in)": 1 of the whole lists, then 34 for a
 -- "state [that] doesn't agree with the lists cut to its counts".
 abbrev pub appended : State → TypeTable → Answer State
-appended s t = and_then (preparedOf t) (λ new. requireAgreement s (cut_to (countsOf s) t) (accepted new))
+appended s t = and_then (prepared_of t) (λ new. require_agreement s (cut_to (counts_of s) t) (accepted new))
 
 -- "a count to go back to that is above the state's or the lists' is also 1, place 256"
-abbrev pub countsWithin : Counts → State → TypeTable → Bool
-countsWithin n s t =
+abbrev pub counts_within : Counts → State → TypeTable → Bool
+counts_within n s t =
     leb n.rows s.rows && leb n.members s.members && leb n.entries s.entries
-    && leb n.rows (rowCount t) && leb n.members (memberCount t) && leb n.entries (length t.entries)
+    && leb n.rows (row_count t) && leb n.members (member_count t) && leb n.entries (length t.entries)
 
 -- "go back to earlier counts of the three": 1 of the lists cut to them, then 34.
-abbrev pub wentBack : State → TypeTable → Counts → Answer State
-wentBack s t n =
-    require (countsWithin n s t) (fault tableNotSound (Row 256))
-    (and_then (preparedOf (cut_to n t)) (λ new. requireAgreement s (cut_to (countsOf s) t) (accepted new)))
+abbrev pub went_back : State → TypeTable → Counts → Answer State
+went_back s t n =
+    require (counts_within n s t) (fault table_not_sound (Row 256))
+    (and_then (prepared_of (cut_to n t)) (λ new. require_agreement s (cut_to (counts_of s) t) (accepted new)))
 
 -- What an operation answers: "any refusal leaves the state unchanged".
 abbrev pub answered : Answer State → (before : State) → Prepared
@@ -49,9 +49,9 @@ answered (accepted new) before = record { verdict = Sound; state = new }
 answered (refused f) before = record { verdict = Refused f; state = before }
 
 -- What preparing the lists cut to a state's counts leaves.
-abbrev pub cutState : State → TypeTable → State
-cutState s t = (answered (preparedOf (cut_to (countsOf s) t)) start).state
+abbrev pub cut_state : State → TypeTable → State
+cut_state s t = (answered (prepared_of (cut_to (counts_of s) t)) start).state
 
 -- Besides number and place it answers no numbers: the state is handed back.
-abbrev pub noNumbers : State → List ℕ
-noNumbers s = []
+abbrev pub no_numbers : State → List ℕ
+no_numbers s = []

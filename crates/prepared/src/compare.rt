@@ -1,6 +1,6 @@
 // Whether two states are the same, number by number.
 ghost use Rattle.std.specs.Prelude.{◌≡◌};
-ghost use Rattle.prepared.specs.States.{same_numbers, sameState};
+ghost use Rattle.prepared.specs.States.{same_numbers, same_state};
 
 use crate::State;
 
@@ -18,7 +18,7 @@ fn same_numbers(a: &[u32; 256], b: &[u32; 256]) -> bool
 }
 
 pub(crate) fn same_state(state: State, other: State) -> bool
-    ensures { result ≡ sameState state other }
+    ensures { result ≡ same_state state other }
 {
     let sizes = state.sizes;
     let alignments = state.alignments;

@@ -3,12 +3,12 @@
 mod compare;
 
 ghost use Rattle.std.specs.Prelude.{◌≡◌, ◌*◌, ◌≤◌, min};
-ghost use Rattle.rules.specs.Refusals.{stateDisagrees, fault, refused};
-ghost use Rattle.rules.specs.TypeTable.{typeTable};
-ghost use Rattle.rules.specs.Answers.{numbersOf, nothing};
-ghost use Rattle.layout.specs.Answers.{verdictOf, verdictNumbers};
-ghost use Rattle.prepared.specs.States.{start, preparedOf, agreement};
-ghost use Rattle.prepared.specs.Operations.{counts, appended, wentBack, answered, cutState, noNumbers};
+ghost use Rattle.rules.specs.Refusals.{state_disagrees, fault, refused};
+ghost use Rattle.rules.specs.TypeTable.{type_table};
+ghost use Rattle.rules.specs.Answers.{numbers_of, nothing};
+ghost use Rattle.layout.specs.Answers.{verdict_of, verdict_numbers};
+ghost use Rattle.prepared.specs.States.{start, prepared_of, agreement};
+ghost use Rattle.prepared.specs.Operations.{counts, appended, went_back, answered, cut_state, no_numbers};
 
 use compare::same_state;
 use layout::Soundness;
@@ -45,7 +45,7 @@ fn refusal(fault: Fault, state: State) -> Prepared
 
 // 34, place 0.
 fn disagreement() -> Fault
-    ensures { result ≡ fault stateDisagrees (Place.Amount 0) }
+    ensures { result ≡ fault state_disagrees (Place.Amount 0) }
 {
     Fault {
         number: 34,
@@ -67,7 +67,7 @@ fn cut_at(count: usize, each: usize, length: usize) -> usize
 
 // What preparing the lists cut to a state's counts gives: the start state on a refusal.
 fn cut_state(state: State, rows: &[u32], members: &[u32], entries: &[u64]) -> State
-    ensures { result ≡ cutState state (typeTable rows.now members.now entries.now) }
+    ensures { result ≡ cut_state state (type_table rows.now members.now entries.now) }
 {
     let rows_end = cut_at(state.rows, 4, rows.len());
     let members_end = cut_at(state.members, 2, members.len());
@@ -97,8 +97,8 @@ impl State {
 
     // Prepares a whole table: 1, with the start state.
     pub fn prepare(rows: &[u32], members: &[u32], entries: &[u64]) -> Prepared
-        ensures answer { result ≡ answered (preparedOf (typeTable rows.now members.now entries.now)) start }
-        ensures numbers { verdictNumbers result.verdict ≡ numbersOf 0 noNumbers (preparedOf (typeTable rows.now members.now entries.now)) }
+        ensures answer { result ≡ answered (prepared_of (type_table rows.now members.now entries.now)) start }
+        ensures numbers { verdict_numbers result.verdict ≡ numbers_of 0 no_numbers (prepared_of (type_table rows.now members.now entries.now)) }
     {
         let mut sizes = [0u32; 256];
         let mut alignments = [0u32; 256];
@@ -121,8 +121,8 @@ impl State {
     // Appends what the lists hold past this state's counts: 1 of the whole lists, then 34. The rows in use are laid out once,
     // to hold this state against them, and the climb goes on from there: each row is worked out once.
     pub fn append(self, rows: &[u32], members: &[u32], entries: &[u64]) -> Prepared
-        ensures answer { result ≡ answered (appended self (typeTable rows.now members.now entries.now)) self }
-        ensures numbers { verdictNumbers result.verdict ≡ numbersOf 0 noNumbers (appended self (typeTable rows.now members.now entries.now)) }
+        ensures answer { result ≡ answered (appended self (type_table rows.now members.now entries.now)) self }
+        ensures numbers { verdict_numbers result.verdict ≡ numbers_of 0 no_numbers (appended self (type_table rows.now members.now entries.now)) }
     {
         let used = cut_state(self, rows, members, entries);
         let mut sizes = used.sizes;
@@ -165,8 +165,8 @@ impl State {
         to_members: usize,
         to_entries: usize,
     ) -> Prepared
-        ensures answer { result ≡ answered (wentBack self (typeTable rows.now members.now entries.now) (counts to_rows to_members to_entries)) self }
-        ensures numbers { verdictNumbers result.verdict ≡ numbersOf 0 noNumbers (wentBack self (typeTable rows.now members.now entries.now) (counts to_rows to_members to_entries)) }
+        ensures answer { result ≡ answered (went_back self (type_table rows.now members.now entries.now) (counts to_rows to_members to_entries)) self }
+        ensures numbers { verdict_numbers result.verdict ≡ numbers_of 0 no_numbers (went_back self (type_table rows.now members.now entries.now) (counts to_rows to_members to_entries)) }
     {
         let within_state = (to_rows <= self.rows)
             & (to_members <= self.members)
@@ -202,8 +202,8 @@ impl State {
 
     // What a check asks of this state: 1 of the lists, then 34 where preparing them does not give it.
     pub fn agreement(self, rows: &[u32], members: &[u32], entries: &[u64]) -> Soundness
-        ensures answer { verdictOf result ≡ agreement self (typeTable rows.now members.now entries.now) }
-        ensures numbers { verdictNumbers result ≡ numbersOf 0 nothing (agreement self (typeTable rows.now members.now entries.now)) }
+        ensures answer { verdict_of result ≡ agreement self (type_table rows.now members.now entries.now) }
+        ensures numbers { verdict_numbers result ≡ numbers_of 0 nothing (agreement self (type_table rows.now members.now entries.now)) }
     {
         let whole = State::prepare(rows, members, entries);
         let verdict = whole.verdict;

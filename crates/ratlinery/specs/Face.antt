@@ -3,12 +3,12 @@
 use Rattle.std.specs.Prelude.{List, [], ◌∷◌, ℕ, ◌+◌, ◌-◌, ◌*◌, ℤ, pos, negsuc, get_or}
 use Rattle.rules.specs.Refusals.{Answer}
 use Rattle.rules.specs.Bytes.{ones64}
-use Rattle.rules.specs.Answers.{numbersOf}
+use Rattle.rules.specs.Answers.{numbers_of}
 use Rattle.rules.specs.Header.{Header}
 
 -- The place, then the function's results; on a refusal they are 0.
 abbrev pub told : {A : Type 0} (count : ℕ) (results : A → List ℕ) → Answer A → List ℕ
-told count results answer = let numbers = numbersOf count results answer in numbers.place ∷ numbers.values
+told count results answer = let numbers = numbers_of count results answer in numbers.place ∷ numbers.values
 
 abbrev pub one : ℕ → List ℕ
 one n = n ∷ []

@@ -2,14 +2,14 @@
 // when accepted, and stores the place and its results into `answer`, as far as that has room.
 ghost use Rattle.std.specs.Prelude.{◌≡◌, [], ◌∷◌, ◌≤◌, length};
 ghost use Rattle.std.proofs.lemmas.List.Edits.{sets};
-ghost use Rattle.rules.specs.Refusals.{number, placeNumber, lentAfter};
+ghost use Rattle.rules.specs.Refusals.{number, place_number, lent_after};
 ghost use Rattle.rules.specs.Bytes.{zeros};
-ghost use Rattle.rules.specs.TypeTable.{typeTable};
+ghost use Rattle.rules.specs.TypeTable.{type_table};
 ghost use Rattle.rules.specs.Answers as Rules;
-ghost use Rattle.rules.specs.Answers.{nothing, laid, counted, bothCounted, sized};
+ghost use Rattle.rules.specs.Answers.{nothing, laid, counted, both_counted, sized};
 ghost use Rattle.rules.specs.Header as Headers;
 ghost use Rattle.walk_leaves.specs.Doing as Doing;
-ghost use Rattle.reader.specs.Answers.{given_of, valuesIn, objectsIn};
+ghost use Rattle.reader.specs.Answers.{given_of, values_in, objects_in};
 ghost use Rattle.header.specs.Meaning.{written_of};
 ghost use Rattle.ratlinery.specs.Face.{told, one, header, headed, pattern64};
 
@@ -24,7 +24,7 @@ use writer::Written;
 fn refused(f: Fault, results: usize, answer: &mut [u64]) -> u32
     requires { results ≤ 8 }
     ensures number { result ≡ f.number }
-    ensures answer { answer.new ≡ sets answer.old 0 (placeNumber f.place ∷ zeros results) }
+    ensures answer { answer.new ≡ sets answer.old 0 (place_number f.place ∷ zeros results) }
 {
     words::put_value(answer, 0, rules::place_number(f));
     let mut i = 0;
@@ -43,8 +43,8 @@ pub extern "C" fn ratlinery_layout(
     row: u32,
     answer: &mut [u64],
 ) -> u32
-    ensures number { result ≡ number (Rules.layoutAnswer (typeTable rows.now members.now entries.now) row) }
-    ensures answer { answer.new ≡ sets answer.old 0 (told 2 laid (Rules.layoutAnswer (typeTable rows.now members.now entries.now) row)) }
+    ensures number { result ≡ number (Rules.layout_answer (type_table rows.now members.now entries.now) row) }
+    ensures answer { answer.new ≡ sets answer.old 0 (told 2 laid (Rules.layout_answer (type_table rows.now members.now entries.now) row)) }
 {
     match layout::layout_of(rows, members, entries, row) {
         LayoutAnswer::Refused(f) => refused(f, 2, answer),
@@ -67,8 +67,8 @@ pub extern "C" fn ratlinery_check(
     handles: u64,
     answer: &mut [u64],
 ) -> u32
-    ensures number { result ≡ number (Rules.check (Doing.message (typeTable rows.now members.now entries.now) message.now handles) root) }
-    ensures answer { answer.new ≡ sets answer.old 0 (told 0 nothing (Rules.check (Doing.message (typeTable rows.now members.now entries.now) message.now handles) root)) }
+    ensures number { result ≡ number (Rules.check (Doing.message (type_table rows.now members.now entries.now) message.now handles) root) }
+    ensures answer { answer.new ≡ sets answer.old 0 (told 0 nothing (Rules.check (Doing.message (type_table rows.now members.now entries.now) message.now handles) root)) }
 {
     match reader::check(rows, members, entries, root, message, handles) {
         Verdict::Refused(f) => refused(f, 0, answer),
@@ -91,10 +91,10 @@ pub extern "C" fn ratlinery_read(
     objects: &mut [u32],
     answer: &mut [u64],
 ) -> u32
-    ensures number { result ≡ number (Rules.read (Doing.message (typeTable rows.now members.now entries.now) message.now handles) root (length values.old) (length objects.old)) }
-    ensures values { values.new ≡ lentAfter (valuesIn (Rules.read (Doing.message (typeTable rows.now members.now entries.now) message.now handles) root (length values.old) (length objects.old))) values.old }
-    ensures objects { objects.new ≡ lentAfter (objectsIn (Rules.read (Doing.message (typeTable rows.now members.now entries.now) message.now handles) root (length values.old) (length objects.old))) objects.old }
-    ensures answer { answer.new ≡ sets answer.old 0 (told 2 bothCounted (Rules.read (Doing.message (typeTable rows.now members.now entries.now) message.now handles) root (length values.old) (length objects.old))) }
+    ensures number { result ≡ number (Rules.read (Doing.message (type_table rows.now members.now entries.now) message.now handles) root (length values.old) (length objects.old)) }
+    ensures values { values.new ≡ lent_after (values_in (Rules.read (Doing.message (type_table rows.now members.now entries.now) message.now handles) root (length values.old) (length objects.old))) values.old }
+    ensures objects { objects.new ≡ lent_after (objects_in (Rules.read (Doing.message (type_table rows.now members.now entries.now) message.now handles) root (length values.old) (length objects.old))) objects.old }
+    ensures answer { answer.new ≡ sets answer.old 0 (told 2 both_counted (Rules.read (Doing.message (type_table rows.now members.now entries.now) message.now handles) root (length values.old) (length objects.old))) }
 {
     match reader::read(
         rows, members, entries, root, message, handles, values, objects,
@@ -135,9 +135,9 @@ pub extern "C" fn ratlinery_read_values(
     values: &mut [u64],
     answer: &mut [u64],
 ) -> u32
-    ensures number { result ≡ number (Rules.readValues (Doing.message (typeTable rows.now members.now entries.now) message.now handles) root (length values.old)) }
-    ensures values { values.new ≡ lentAfter (Rules.readValues (Doing.message (typeTable rows.now members.now entries.now) message.now handles) root (length values.old)) values.old }
-    ensures answer { answer.new ≡ sets answer.old 0 (told 1 counted (Rules.readValues (Doing.message (typeTable rows.now members.now entries.now) message.now handles) root (length values.old))) }
+    ensures number { result ≡ number (Rules.read_values (Doing.message (type_table rows.now members.now entries.now) message.now handles) root (length values.old)) }
+    ensures values { values.new ≡ lent_after (Rules.read_values (Doing.message (type_table rows.now members.now entries.now) message.now handles) root (length values.old)) values.old }
+    ensures answer { answer.new ≡ sets answer.old 0 (told 1 counted (Rules.read_values (Doing.message (type_table rows.now members.now entries.now) message.now handles) root (length values.old))) }
 {
     given(
         reader::read_values(rows, members, entries, root, message, handles, values),
@@ -156,9 +156,9 @@ pub extern "C" fn ratlinery_read_objects(
     objects: &mut [u32],
     answer: &mut [u64],
 ) -> u32
-    ensures number { result ≡ number (Rules.readObjects (Doing.message (typeTable rows.now members.now entries.now) message.now handles) root (length objects.old)) }
-    ensures objects { objects.new ≡ lentAfter (Rules.readObjects (Doing.message (typeTable rows.now members.now entries.now) message.now handles) root (length objects.old)) objects.old }
-    ensures answer { answer.new ≡ sets answer.old 0 (told 1 counted (Rules.readObjects (Doing.message (typeTable rows.now members.now entries.now) message.now handles) root (length objects.old))) }
+    ensures number { result ≡ number (Rules.read_objects (Doing.message (type_table rows.now members.now entries.now) message.now handles) root (length objects.old)) }
+    ensures objects { objects.new ≡ lent_after (Rules.read_objects (Doing.message (type_table rows.now members.now entries.now) message.now handles) root (length objects.old)) objects.old }
+    ensures answer { answer.new ≡ sets answer.old 0 (told 1 counted (Rules.read_objects (Doing.message (type_table rows.now members.now entries.now) message.now handles) root (length objects.old))) }
 {
     given(
         reader::read_objects(rows, members, entries, root, message, handles, objects),
@@ -176,9 +176,9 @@ pub extern "C" fn ratlinery_write(
     out: &mut [u8],
     answer: &mut [u64],
 ) -> u32
-    ensures number { result ≡ number (Rules.write (typeTable rows.now members.now entries.now) root values.now (length out.old)) }
-    ensures out { out.new ≡ Rules.outputAfter (Rules.write (typeTable rows.now members.now entries.now) root values.now (length out.old)) out.old }
-    ensures answer { answer.new ≡ sets answer.old 0 (told 2 sized (Rules.write (typeTable rows.now members.now entries.now) root values.now (length out.old))) }
+    ensures number { result ≡ number (Rules.write (type_table rows.now members.now entries.now) root values.now (length out.old)) }
+    ensures out { out.new ≡ Rules.output_after (Rules.write (type_table rows.now members.now entries.now) root values.now (length out.old)) out.old }
+    ensures answer { answer.new ≡ sets answer.old 0 (told 2 sized (Rules.write (type_table rows.now members.now entries.now) root values.now (length out.old))) }
 {
     match writer::write(rows, members, entries, root, values, out) {
         Written::Refused(f) => refused(f, 2, answer),
@@ -204,8 +204,8 @@ fn extended(number: i32) -> u64
 
 #[unsafe(no_mangle)]
 pub extern "C" fn ratlinery_header_read(message: &[u8], answer: &mut [u64]) -> u32
-    ensures number { result ≡ number (Headers.readHeader message.now) }
-    ensures answer { answer.new ≡ sets answer.old 0 (told 6 (headed (length message.now) (Headers.status message.now)) (Headers.readHeader message.now)) }
+    ensures number { result ≡ number (Headers.read_header message.now) }
+    ensures answer { answer.new ≡ sets answer.old 0 (told 6 (headed (length message.now) (Headers.status message.now)) (Headers.read_header message.now)) }
 {
     match header::read_header(message) {
         HeaderAnswer::Refused(f) => refused(f, 6, answer),
@@ -251,9 +251,9 @@ pub extern "C" fn ratlinery_header_write(
     out: &mut [u8],
     answer: &mut [u64],
 ) -> u32
-    ensures number { result ≡ number (Headers.writeHeader (header transaction flag0 flag1 flag2 ordinal) (length out.old)) }
-    ensures out { out.new ≡ lentAfter (Headers.writeHeader (header transaction flag0 flag1 flag2 ordinal) (length out.old)) out.old }
-    ensures answer { answer.new ≡ sets answer.old 0 (told 1 counted (Headers.writeHeader (header transaction flag0 flag1 flag2 ordinal) (length out.old))) }
+    ensures number { result ≡ number (Headers.write_header (header transaction flag0 flag1 flag2 ordinal) (length out.old)) }
+    ensures out { out.new ≡ lent_after (Headers.write_header (header transaction flag0 flag1 flag2 ordinal) (length out.old)) out.old }
+    ensures answer { answer.new ≡ sets answer.old 0 (told 1 counted (Headers.write_header (header transaction flag0 flag1 flag2 ordinal) (length out.old))) }
 {
     let h = Header {
         transaction,
@@ -274,9 +274,9 @@ pub extern "C" fn ratlinery_epitaph_write(
     out: &mut [u8],
     answer: &mut [u64],
 ) -> u32
-    ensures number { result ≡ number (Headers.writeEpitaph flag0 flag1 flag2 status (length out.old)) }
-    ensures out { out.new ≡ lentAfter (Headers.writeEpitaph flag0 flag1 flag2 status (length out.old)) out.old }
-    ensures answer { answer.new ≡ sets answer.old 0 (told 1 counted (Headers.writeEpitaph flag0 flag1 flag2 status (length out.old))) }
+    ensures number { result ≡ number (Headers.write_epitaph flag0 flag1 flag2 status (length out.old)) }
+    ensures out { out.new ≡ lent_after (Headers.write_epitaph flag0 flag1 flag2 status (length out.old)) out.old }
+    ensures answer { answer.new ≡ sets answer.old 0 (told 1 counted (Headers.write_epitaph flag0 flag1 flag2 status (length out.old))) }
 {
     written(
         header::write_epitaph(flag0, flag1, flag2, status, out),
@@ -286,8 +286,8 @@ pub extern "C" fn ratlinery_epitaph_write(
 
 #[unsafe(no_mangle)]
 pub extern "C" fn ratlinery_utf8(text: &[u8], answer: &mut [u64]) -> u32
-    ensures number { result ≡ number (Rules.textAnswer text.now) }
-    ensures answer { answer.new ≡ sets answer.old 0 (told 0 nothing (Rules.textAnswer text.now)) }
+    ensures number { result ≡ number (Rules.text_answer text.now) }
+    ensures answer { answer.new ≡ sets answer.old 0 (told 0 nothing (Rules.text_answer text.now)) }
 {
     match text::judge(text) {
         Text::Valid => {

@@ -7,34 +7,34 @@ use native.Mathlib.Omega.{arith}
 use lib.ListN.{length}
 use Rattle.rules.specs.declared.Fault.{Fault}
 use Rattle.rules.specs.Refusals.{Answer, accepted, refused, and_then}
-use Rattle.rules.specs.TypeTable.{TypeTable, typeTable}
+use Rattle.rules.specs.TypeTable.{TypeTable, type_table}
 use Rattle.rules.specs.Sound.{soundness}
 use Rattle.rules.specs.Decode.{Message}
 use Rattle.rules.specs.Answers as A
-use Rattle.rules.specs.Answers.{numbersOf, nothing}
-use Rattle.layout.specs.Answers.{keptSizes, keptAlignments}
+use Rattle.rules.specs.Answers.{numbers_of, nothing}
+use Rattle.layout.specs.Answers.{kept_sizes, kept_alignments}
 use Rattle.prepared.specs.declared.State.{State}
-use Rattle.prepared.specs.States.{agreement, checkPrepared}
-use Rattle.prepared.proofs.Operations.{agreement-said}
+use Rattle.prepared.specs.States.{agreement, check_prepared}
+use Rattle.prepared.proofs.Operations.{agreement_said}
 use Rattle.walk_leaves.specs.Doing.{message}
 use Rattle.reader.specs.declared.Verdict.{Verdict}
 use Rattle.reader.specs.declared.Verdict.TheVariants as Checked
 use Rattle.reader.specs.declared.Lengths.{Lengths}
 use Rattle.reader.specs.declared.Reading.{Reading}
 use Rattle.reader.specs.declared.Reading.TheVariants.{Accepted, Refused}
-use Rattle.reader.specs.Answers.{verdictOf, verdictNumbers}
+use Rattle.reader.specs.Answers.{verdict_of, verdict_numbers}
 use Rattle.reader.specs.Passing.{BeforeWalk, Walkable, Passed}
-use Rattle.reader.proofs.Numbers.{verdict-numbers}
-use Rattle.reader.proofs.Judging.{judge-refused, judge-walkable, judge-passed}
-use Rattle.reader.proofs.Lent.{Checks, check-refused, check-accepted}
+use Rattle.reader.proofs.Numbers.{verdict_numbers_lem}
+use Rattle.reader.proofs.Judging.{judge_refused, judge_walkable, judge_passed}
+use Rattle.reader.proofs.Lent.{Checks, check_refused, check_accepted}
 
 -- What is promised of the answer.
 abbrev ChecksPrepared : State → Message → (root : ℕ) → Verdict → Type 0
-ChecksPrepared s m root r = (verdictOf r ≡ checkPrepared s m root) × (verdictNumbers r ≡ numbersOf 0 nothing (checkPrepared s m root))
+ChecksPrepared s m root r = (verdict_of r ≡ check_prepared s m root) × (verdict_numbers r ≡ numbers_of 0 nothing (check_prepared s m root))
 
 module _ (s : State) (rows members entries bytes : List ℕ) (root handles : ℕ) where
   abbrev t : TypeTable
-  t = typeTable rows members entries
+  t = type_table rows members entries
 
   abbrev here : Message
   here = message t bytes handles
@@ -43,8 +43,8 @@ module _ (s : State) (rows members entries bytes : List ℕ) (root handles : ℕ
   goes_on : agreement s t ≡ accepted tt → (a : Verdict) → Checks t bytes root handles a → ChecksPrepared s here root a
   goes_on e a c = rw e c
 
-  sound-verdict : {verdict : Answer (Unit {0})} → verdict ≡ agreement s t → agreement s t ≡ accepted tt → verdict ≡ soundness t
-  sound-verdict v e = v ∙ e ∙ sym (agreement-said s t e).0
+  sound_verdict : {verdict : Answer (Unit {0})} → verdict ≡ agreement s t → agreement s t ≡ accepted tt → verdict ≡ soundness t
+  sound_verdict v e = v ∙ e ∙ sym (agreement_said s t e).0
 
   module _
       {verdict : Answer (Unit {0})}
@@ -52,39 +52,39 @@ module _ (s : State) (rows members entries bytes : List ℕ) (root handles : ℕ
       {r : Verdict}
       (tested : BeforeWalk verdict rows root (length bytes) handles r)
     where
-      refused-case : (a : Answer (Unit {0})) → agreement s t ≡ a → {f : Fault} → r ≡ Checked.Refused f → ChecksPrepared s here root (Checked.Refused f)
-      refused-case (accepted tt) e {f} q =
-          goes_on e (Checked.Refused f) (check-refused t bytes root handles (judge-refused rows members entries bytes root handles (sound-verdict v e) tested q) refl)
-      refused-case (refused g) e {f} q =
-          let same : verdictOf r ≡ refused g = tested t refl ∙ rw (v, e) in
-          let answer : verdictOf (Checked.Refused f) ≡ checkPrepared s here root = sym (ap verdictOf q) ∙ same ∙ rw e in
-          (answer, verdict-numbers (Checked.Refused f) answer)
+      refused_case : (a : Answer (Unit {0})) → agreement s t ≡ a → {f : Fault} → r ≡ Checked.Refused f → ChecksPrepared s here root (Checked.Refused f)
+      refused_case (accepted tt) e {f} q =
+          goes_on e (Checked.Refused f) (check_refused t bytes root handles (judge_refused rows members entries bytes root handles (sound_verdict v e) tested q) refl)
+      refused_case (refused g) e {f} q =
+          let same : verdict_of r ≡ refused g = tested t refl ∙ rw (v, e) in
+          let answer : verdict_of (Checked.Refused f) ≡ check_prepared s here root = sym (ap verdict_of q) ∙ same ∙ rw e in
+          (answer, verdict_numbers_lem (Checked.Refused f) answer)
 
-      pub state-refused : {f : Fault} → r ≡ Checked.Refused f → ChecksPrepared s here root (Checked.Refused f)
-      state-refused q = refused-case (agreement s t) refl q
+      pub state_refused : {f : Fault} → r ≡ Checked.Refused f → ChecksPrepared s here root (Checked.Refused f)
+      state_refused q = refused_case (agreement s t) refl q
 
       module _ (q : r ≡ Checked.Accepted) where
-        agreed-case : (a : Answer (Unit {0})) → agreement s t ≡ a → agreement s t ≡ accepted tt
-        agreed-case (accepted tt) e = e
-        agreed-case (refused g) e =
-            let same : verdictOf r ≡ refused g = tested t refl ∙ rw (v, e) in
+        agreed_case : (a : Answer (Unit {0})) → agreement s t ≡ a → agreement s t ≡ accepted tt
+        agreed_case (accepted tt) e = e
+        agreed_case (refused g) e =
+            let same : verdict_of r ≡ refused g = tested t refl ∙ rw (v, e) in
             absurd (let w : ◌≡◌ {A = ℕ} 0 1 = cc in omega arith)
 
         agreed : agreement s t ≡ accepted tt
-        agreed = agreed-case (agreement s t) refl
+        agreed = agreed_case (agreement s t) refl
 
         -- The walk goes by the state's stores.
-        pub state-walkable : Walkable t bytes root handles s.sizes s.alignments
-        state-walkable =
-            let said = agreement-said s t agreed in
-            judge-walkable rows members entries bytes root handles (sound-verdict v agreed) tested q s.sizes s.alignments
+        pub state_walkable : Walkable t bytes root handles s.sizes s.alignments
+        state_walkable =
+            let said = agreement_said s t agreed in
+            judge_walkable rows members entries bytes root handles (sound_verdict v agreed) tested q s.sizes s.alignments
             (rw said.0 (ap (λ x. x.sizes) said.1)) (rw said.0 (ap (λ x. x.alignments) said.1))
 
         module _ {values values' objects objects' : List ℕ} {a : Reading} (p : Passed t bytes root handles values values' objects objects' a) where
-          pub state-walk-refused : {f : Fault} → a ≡ Refused f → ChecksPrepared s here root (Checked.Refused f)
-          state-walk-refused {f} e =
-              goes_on agreed (Checked.Refused f) (check-refused t bytes root handles (judge-passed rows members entries bytes root handles (sound-verdict v agreed) tested q p) e)
+          pub state_walk_refused : {f : Fault} → a ≡ Refused f → ChecksPrepared s here root (Checked.Refused f)
+          state_walk_refused {f} e =
+              goes_on agreed (Checked.Refused f) (check_refused t bytes root handles (judge_passed rows members entries bytes root handles (sound_verdict v agreed) tested q p) e)
 
-          pub state-accepted : {lengths : Lengths} → a ≡ Accepted lengths → ChecksPrepared s here root Checked.Accepted
-          state-accepted e =
-              goes_on agreed Checked.Accepted (check-accepted t bytes root handles (judge-passed rows members entries bytes root handles (sound-verdict v agreed) tested q p) e)
+          pub state_accepted : {lengths : Lengths} → a ≡ Accepted lengths → ChecksPrepared s here root Checked.Accepted
+          state_accepted e =
+              goes_on agreed Checked.Accepted (check_accepted t bytes root handles (judge_passed rows members entries bytes root handles (sound_verdict v agreed) tested q p) e)

@@ -1,7 +1,7 @@
 -- What the answers of this crate's public functions mean in the rules.
 -- Assumes nothing.
 use Rattle.std.specs.Prelude.{List, [], ◌∷◌, ℕ, length}
-use Rattle.rules.specs.Refusals.{placeNumber, Answer, accepted, refused, and_then}
+use Rattle.rules.specs.Refusals.{place_number, Answer, accepted, refused, and_then}
 use Rattle.rules.specs.Answers.{Lists, Numbers}
 use Rattle.reader.specs.declared.Verdict.{Verdict}
 use Rattle.reader.specs.declared.Verdict.TheVariants as Checked
@@ -12,9 +12,9 @@ use Rattle.reader.specs.declared.Reading.{Reading}
 use Rattle.reader.specs.declared.Reading.TheVariants as Both
 
 -- The checker's answer, that of one list and that of both.
-abbrev pub verdictOf : Verdict → Answer (Unit {0})
-verdictOf Checked.Accepted = accepted tt
-verdictOf (Checked.Refused f) = refused f
+abbrev pub verdict_of : Verdict → Answer (Unit {0})
+verdict_of Checked.Accepted = accepted tt
+verdict_of (Checked.Refused f) = refused f
 
 abbrev pub given_of : Given → Answer ℕ
 given_of (One.Accepted count) = accepted count
@@ -25,28 +25,28 @@ reading_of (Both.Accepted lengths) = accepted lengths
 reading_of (Both.Refused f) = refused f
 
 -- Document 01's number, place and values of each case.
-abbrev pub verdictNumbers : Verdict → Numbers
-verdictNumbers Checked.Accepted = record { number = 0; place = 0; values = [] }
-verdictNumbers (Checked.Refused f) = record { number = f.number; place = placeNumber f.place; values = [] }
+abbrev pub verdict_numbers : Verdict → Numbers
+verdict_numbers Checked.Accepted = record { number = 0; place = 0; values = [] }
+verdict_numbers (Checked.Refused f) = record { number = f.number; place = place_number f.place; values = [] }
 
-abbrev pub givenNumbers : Given → Numbers
-givenNumbers (One.Accepted count) = record { number = 0; place = 0; values = count ∷ [] }
-givenNumbers (One.Refused f) = record { number = f.number; place = placeNumber f.place; values = 0 ∷ [] }
+abbrev pub given_numbers : Given → Numbers
+given_numbers (One.Accepted count) = record { number = 0; place = 0; values = count ∷ [] }
+given_numbers (One.Refused f) = record { number = f.number; place = place_number f.place; values = 0 ∷ [] }
 
-abbrev pub readingNumbers : Reading → Numbers
-readingNumbers (Both.Accepted lengths) = record { number = 0; place = 0; values = lengths.values ∷ lengths.objects ∷ [] }
-readingNumbers (Both.Refused f) = record { number = f.number; place = placeNumber f.place; values = 0 ∷ 0 ∷ [] }
+abbrev pub reading_numbers : Reading → Numbers
+reading_numbers (Both.Accepted lengths) = record { number = 0; place = 0; values = lengths.values ∷ lengths.objects ∷ [] }
+reading_numbers (Both.Refused f) = record { number = f.number; place = place_number f.place; values = 0 ∷ 0 ∷ [] }
 
 -- What is answered of the lists that are given: how many numbers each has.
 abbrev pub length_of : Answer (List ℕ) → Answer ℕ
 length_of answer = and_then answer (λ list. accepted (length list))
 
-abbrev pub lengthsOf : Answer Lists → Answer Lengths
-lengthsOf answer = and_then answer (λ lists. accepted (record { values = length lists.values; objects = length lists.objects }))
+abbrev pub lengths_of : Answer Lists → Answer Lengths
+lengths_of answer = and_then answer (λ lists. accepted (record { values = length lists.values; objects = length lists.objects }))
 
 -- What is given of each where both are asked for.
-abbrev pub valuesIn : Answer Lists → Answer (List ℕ)
-valuesIn answer = and_then answer (λ lists. accepted lists.values)
+abbrev pub values_in : Answer Lists → Answer (List ℕ)
+values_in answer = and_then answer (λ lists. accepted lists.values)
 
-abbrev pub objectsIn : Answer Lists → Answer (List ℕ)
-objectsIn answer = and_then answer (λ lists. accepted lists.objects)
+abbrev pub objects_in : Answer Lists → Answer (List ℕ)
+objects_in answer = and_then answer (λ lists. accepted lists.objects)

@@ -3,13 +3,13 @@
 use Rattle.std.specs.Prelude.{List, ◌≡◌, ℕ, ◌≤◌, leb, eqb, length}
 use Rattle.std.proofs.lemmas.List.Edits.{sets}
 use Rattle.rules.specs.declared.Place.TheVariants.{Byte, Amount}
-use Rattle.rules.specs.Refusals.{fault, tooManyHandles, bytesLeft, handlesLeft, Answer, accepted, require, and_then}
+use Rattle.rules.specs.Refusals.{fault, too_many_handles, bytes_left, handles_left, Answer, accepted, require, and_then}
 use Rattle.rules.specs.TypeTable.{TypeTable}
-use Rattle.rules.specs.Sound.{rootAllowed, requireRow}
-use Rattle.rules.specs.Trace.{objectList}
-use Rattle.rules.specs.Decode.{Message, traceOf}
+use Rattle.rules.specs.Sound.{root_allowed, require_row}
+use Rattle.rules.specs.Trace.{object_list}
+use Rattle.rules.specs.Decode.{Message, trace_of}
 use Rattle.rules.specs.Answers as A
-use Rattle.rules.specs.Answers.{Lists, walk, finished, requireLength, judged}
+use Rattle.rules.specs.Answers.{Lists, walk, finished, require_length, judged}
 use Rattle.layout.specs.Ready.{Ready}
 use Rattle.reader.specs.declared.Verdict.{Verdict}
 use Rattle.reader.specs.declared.Lengths.{Lengths}
@@ -17,24 +17,24 @@ use Rattle.reader.specs.declared.Reading.{Reading}
 use Rattle.walk_leaves.specs.declared.cursor.Cursor.{Cursor}
 use Rattle.walk_leaves.specs.declared.cursor.Walked.{Walked}
 use Rattle.walk_leaves.specs.Doing.{message, values_of, Did}
-use Rattle.reader.specs.Answers.{verdictOf, reading_of, lengthsOf}
+use Rattle.reader.specs.Answers.{verdict_of, reading_of, lengths_of}
 
 -- The lists of a message that is accepted.
 abbrev pub lists_of : Answer A.Reading → Answer Lists
-lists_of answer = and_then answer (λ reading. accepted (record { values = reading.values; objects = objectList reading.trace }))
+lists_of answer = and_then answer (λ reading. accepted (record { values = reading.values; objects = object_list reading.trace }))
 
 -- 2, 3 and 4, after the verdict on the type table: under every one that has these rows.
 abbrev pub BeforeWalk : (sound : Answer (Unit {0})) (rows : List ℕ) (root length handles : ℕ) → Verdict → Type 0
 BeforeWalk sound rows root length handles r =
-    (t : TypeTable) → t.rows ≡ rows → verdictOf r
-    ≡ and_then sound (λ s. requireRow (rootAllowed t root) root
-    (requireLength length (require (leb handles 64) (fault tooManyHandles (Amount 0)) (accepted tt))))
+    (t : TypeTable) → t.rows ≡ rows → verdict_of r
+    ≡ and_then sound (λ s. require_row (root_allowed t root) root
+    (require_length length (require (leb handles 64) (fault too_many_handles (Amount 0)) (accepted tt))))
 
 -- 20, 21: what is answered where a walk ends.
-abbrev pub afterWalk : (end : Cursor) (length handles : ℕ) → Answer Lengths
-afterWalk end length handles =
-    require (eqb end.next length) (fault bytesLeft (Byte end.next))
-    (require (eqb end.handles handles) (fault handlesLeft (Amount end.handles)) (accepted (record { values = end.values; objects = end.objects })))
+abbrev pub after_walk : (end : Cursor) (length handles : ℕ) → Answer Lengths
+after_walk end length handles =
+    require (eqb end.next length) (fault bytes_left (Byte end.next))
+    (require (eqb end.handles handles) (fault handles_left (Amount end.handles)) (accepted (record { values = end.values; objects = end.objects })))
 
 -- Where a walk starts.
 abbrev pub start : Cursor
@@ -53,10 +53,10 @@ module _ (t : TypeTable) (bytes : List ℕ) (root handles : ℕ) where
 
     -- One walk with the tests after it. What there is no room for is left out of the lists.
     pub record Passed (r : Reading) : Type 0 where
-      pub answers : reading_of r ≡ lengthsOf (lists_of (finished (message t bytes handles) (walk (message t bytes handles) root)))
+      pub answers : reading_of r ≡ lengths_of (lists_of (finished (message t bytes handles) (walk (message t bytes handles) root)))
       pub valued : values' ≡ sets values 0 (values_of (walk (message t bytes handles) root))
-      pub listed : objects' ≡ sets objects 0 (objectList (traceOf (walk (message t bytes handles) root)))
+      pub listed : objects' ≡ sets objects 0 (object_list (trace_of (walk (message t bytes handles) root)))
 
 -- Every test of the checker.
-abbrev pub judgedLengths : Message → (root : ℕ) → Answer Lengths
-judgedLengths m root = lengthsOf (lists_of (judged m root))
+abbrev pub judged_lengths : Message → (root : ℕ) → Answer Lengths
+judged_lengths m root = lengths_of (lists_of (judged m root))

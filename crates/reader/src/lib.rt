@@ -4,12 +4,12 @@ mod with_state;
 
 ghost use Rattle.std.specs.Prelude.{◌≡◌, length};
 ghost use Rattle.rules.specs.declared.Place.TheVariants.{Amount};
-ghost use Rattle.rules.specs.Refusals.{fault, lentAfter};
-ghost use Rattle.rules.specs.TypeTable.{typeTable};
+ghost use Rattle.rules.specs.Refusals.{fault, lent_after};
+ghost use Rattle.rules.specs.TypeTable.{type_table};
 ghost use Rattle.rules.specs.Answers as Rules;
-ghost use Rattle.rules.specs.Answers.{numbersOf, nothing, counted, bothCounted};
+ghost use Rattle.rules.specs.Answers.{numbers_of, nothing, counted, both_counted};
 ghost use Rattle.walk_leaves.specs.Doing as Doing;
-ghost use Rattle.reader.specs.Answers.{verdictOf, verdictNumbers, given_of, givenNumbers, reading_of, readingNumbers, length_of, lengthsOf, valuesIn, objectsIn};
+ghost use Rattle.reader.specs.Answers.{verdict_of, verdict_numbers, given_of, given_numbers, reading_of, reading_numbers, length_of, lengths_of, values_in, objects_in};
 
 use pass::{judge, pass};
 use rules::{Fault, Place};
@@ -62,8 +62,8 @@ pub fn check(
     message: &[u8],
     handles: u64,
 ) -> Verdict
-    ensures answer { verdictOf result ≡ Rules.check (Doing.message (typeTable rows.now members.now entries.now) message.now handles) root }
-    ensures numbers { verdictNumbers result ≡ numbersOf 0 nothing (Rules.check (Doing.message (typeTable rows.now members.now entries.now) message.now handles) root) }
+    ensures answer { verdict_of result ≡ Rules.check (Doing.message (type_table rows.now members.now entries.now) message.now handles) root }
+    ensures numbers { verdict_numbers result ≡ numbers_of 0 nothing (Rules.check (Doing.message (type_table rows.now members.now entries.now) message.now handles) root) }
 {
     let mut sizes = [0u32; 256];
     let mut alignments = [0u32; 256];
@@ -93,9 +93,9 @@ pub fn read_values(
     handles: u64,
     values: &mut [u64],
 ) -> Given
-    ensures answer { given_of result ≡ length_of (Rules.readValues (Doing.message (typeTable rows.now members.now entries.now) message.now handles) root (length values.old)) }
-    ensures list { values.new ≡ lentAfter (Rules.readValues (Doing.message (typeTable rows.now members.now entries.now) message.now handles) root (length values.old)) values.old }
-    ensures numbers { givenNumbers result ≡ numbersOf 1 counted (Rules.readValues (Doing.message (typeTable rows.now members.now entries.now) message.now handles) root (length values.old)) }
+    ensures answer { given_of result ≡ length_of (Rules.read_values (Doing.message (type_table rows.now members.now entries.now) message.now handles) root (length values.old)) }
+    ensures list { values.new ≡ lent_after (Rules.read_values (Doing.message (type_table rows.now members.now entries.now) message.now handles) root (length values.old)) values.old }
+    ensures numbers { given_numbers result ≡ numbers_of 1 counted (Rules.read_values (Doing.message (type_table rows.now members.now entries.now) message.now handles) root (length values.old)) }
 {
     let mut sizes = [0u32; 256];
     let mut alignments = [0u32; 256];
@@ -142,9 +142,9 @@ pub fn read_objects(
     handles: u64,
     objects: &mut [u32],
 ) -> Given
-    ensures answer { given_of result ≡ length_of (Rules.readObjects (Doing.message (typeTable rows.now members.now entries.now) message.now handles) root (length objects.old)) }
-    ensures list { objects.new ≡ lentAfter (Rules.readObjects (Doing.message (typeTable rows.now members.now entries.now) message.now handles) root (length objects.old)) objects.old }
-    ensures numbers { givenNumbers result ≡ numbersOf 1 counted (Rules.readObjects (Doing.message (typeTable rows.now members.now entries.now) message.now handles) root (length objects.old)) }
+    ensures answer { given_of result ≡ length_of (Rules.read_objects (Doing.message (type_table rows.now members.now entries.now) message.now handles) root (length objects.old)) }
+    ensures list { objects.new ≡ lent_after (Rules.read_objects (Doing.message (type_table rows.now members.now entries.now) message.now handles) root (length objects.old)) objects.old }
+    ensures numbers { given_numbers result ≡ numbers_of 1 counted (Rules.read_objects (Doing.message (type_table rows.now members.now entries.now) message.now handles) root (length objects.old)) }
 {
     let mut sizes = [0u32; 256];
     let mut alignments = [0u32; 256];
@@ -192,10 +192,10 @@ pub fn read(
     values: &mut [u64],
     objects: &mut [u32],
 ) -> Reading
-    ensures answer { reading_of result ≡ lengthsOf (Rules.read (Doing.message (typeTable rows.now members.now entries.now) message.now handles) root (length values.old) (length objects.old)) }
-    ensures values { values.new ≡ lentAfter (valuesIn (Rules.read (Doing.message (typeTable rows.now members.now entries.now) message.now handles) root (length values.old) (length objects.old))) values.old }
-    ensures objects { objects.new ≡ lentAfter (objectsIn (Rules.read (Doing.message (typeTable rows.now members.now entries.now) message.now handles) root (length values.old) (length objects.old))) objects.old }
-    ensures numbers { readingNumbers result ≡ numbersOf 2 bothCounted (Rules.read (Doing.message (typeTable rows.now members.now entries.now) message.now handles) root (length values.old) (length objects.old)) }
+    ensures answer { reading_of result ≡ lengths_of (Rules.read (Doing.message (type_table rows.now members.now entries.now) message.now handles) root (length values.old) (length objects.old)) }
+    ensures values { values.new ≡ lent_after (values_in (Rules.read (Doing.message (type_table rows.now members.now entries.now) message.now handles) root (length values.old) (length objects.old))) values.old }
+    ensures objects { objects.new ≡ lent_after (objects_in (Rules.read (Doing.message (type_table rows.now members.now entries.now) message.now handles) root (length values.old) (length objects.old))) objects.old }
+    ensures numbers { reading_numbers result ≡ numbers_of 2 both_counted (Rules.read (Doing.message (type_table rows.now members.now entries.now) message.now handles) root (length values.old) (length objects.old)) }
 {
     let mut sizes = [0u32; 256];
     let mut alignments = [0u32; 256];

@@ -1,12 +1,12 @@
 // A message judged, and its lists given: the tests before the walk, the walk of the root, the tests after it.
 ghost use Rattle.std.specs.Prelude.{◌≡◌, length};
-ghost use Rattle.rules.specs.TypeTable.{typeTable};
+ghost use Rattle.rules.specs.TypeTable.{type_table};
 ghost use Rattle.layout.specs.Answers as Layout;
-ghost use Rattle.layout.specs.Answers.{keptSizes, keptAlignments, givenIfSound};
+ghost use Rattle.layout.specs.Answers.{kept_sizes, kept_alignments, given_if_sound};
 ghost use Rattle.layout.specs.Kept.{Zeroed};
 ghost use Rattle.walk_leaves.specs.Doing.{message};
 ghost use Rattle.reader.specs.Answers.{reading_of};
-ghost use Rattle.reader.specs.Passing.{BeforeWalk, Walkable, PrimaryDid, afterWalk, Passed, judgedLengths};
+ghost use Rattle.reader.specs.Passing.{BeforeWalk, Walkable, PrimaryDid, after_walk, Passed, judged_lengths};
 
 use crate::{Lengths, Reading, Verdict};
 use layout::climb::climb;
@@ -24,7 +24,7 @@ pub(crate) fn before(
     length: usize,
     handles: u64,
 ) -> Verdict
-    ensures { BeforeWalk (Layout.verdictOf verdict) rows.now root length handles result }
+    ensures { BeforeWalk (Layout.verdict_of verdict) rows.now root length handles result }
 {
     if let Soundness::Refused(f) = verdict {
         return Verdict::Refused(f);
@@ -60,8 +60,8 @@ fn primary(
     values: &mut [u64],
     objects: &mut [u32],
 ) -> Walked
-    requires { Walkable (typeTable rows.now members.now entries.now) bytes.now root held sizes.now alignments.now }
-    ensures { PrimaryDid (typeTable rows.now members.now entries.now) bytes.now root held values.old values.new objects.old objects.new result }
+    requires { Walkable (type_table rows.now members.now entries.now) bytes.now root held sizes.now alignments.now }
+    ensures { PrimaryDid (type_table rows.now members.now entries.now) bytes.now root held values.old values.new objects.old objects.new result }
 {
     let start = Cursor {
         next: 0,
@@ -81,7 +81,7 @@ fn primary(
 
 // After the walk: 20, 21.
 fn after(end: Cursor, length: usize, held: usize) -> Reading
-    ensures { reading_of result ≡ afterWalk end length held }
+    ensures { reading_of result ≡ after_walk end length held }
 {
     if end.next != length {
         return Reading::Refused(fault_at(20, end.next));
@@ -111,8 +111,8 @@ pub(crate) fn pass(
     values: &mut [u64],
     objects: &mut [u32],
 ) -> Reading
-    requires { Walkable (typeTable rows.now members.now entries.now) bytes.now root handles sizes.now alignments.now }
-    ensures { Passed (typeTable rows.now members.now entries.now) bytes.now root handles values.old values.new objects.old objects.new result }
+    requires { Walkable (type_table rows.now members.now entries.now) bytes.now root handles sizes.now alignments.now }
+    ensures { Passed (type_table rows.now members.now entries.now) bytes.now root handles values.old values.new objects.old objects.new result }
 {
     let held = handles as usize;
     match primary(
@@ -145,11 +145,11 @@ pub(crate) fn judge(
     handles: u64,
 ) -> Reading
     requires { Zeroed sizes.old × Zeroed alignments.old }
-    ensures answer { reading_of result ≡ judgedLengths (message (typeTable rows.now members.now entries.now) bytes.now handles) root }
-    ensures sizes { let t = typeTable rows.now members.now entries.now in
-        sizes.new ≡ givenIfSound t (keptSizes t) sizes.old }
-    ensures alignments { let t = typeTable rows.now members.now entries.now in
-        alignments.new ≡ givenIfSound t (keptAlignments t) alignments.old }
+    ensures answer { reading_of result ≡ judged_lengths (message (type_table rows.now members.now entries.now) bytes.now handles) root }
+    ensures sizes { let t = type_table rows.now members.now entries.now in
+        sizes.new ≡ given_if_sound t (kept_sizes t) sizes.old }
+    ensures alignments { let t = type_table rows.now members.now entries.now in
+        alignments.new ≡ given_if_sound t (kept_alignments t) alignments.old }
 {
     let verdict = climb(rows, members, entries, sizes, alignments);
     if let Verdict::Refused(f) = before(verdict, rows, root, bytes.len(), handles) {

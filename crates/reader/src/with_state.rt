@@ -1,10 +1,10 @@
 // A check with a prepared state (W-207).
 ghost use Rattle.std.specs.Prelude.{◌≡◌};
-ghost use Rattle.rules.specs.TypeTable.{typeTable};
-ghost use Rattle.rules.specs.Answers.{numbersOf, nothing};
-ghost use Rattle.prepared.specs.States.{checkPrepared};
+ghost use Rattle.rules.specs.TypeTable.{type_table};
+ghost use Rattle.rules.specs.Answers.{numbers_of, nothing};
+ghost use Rattle.prepared.specs.States.{check_prepared};
 ghost use Rattle.walk_leaves.specs.Doing as Doing;
-ghost use Rattle.reader.specs.Answers.{verdictOf, verdictNumbers};
+ghost use Rattle.reader.specs.Answers.{verdict_of, verdict_numbers};
 
 use crate::pass::{before, pass};
 use crate::{Reading, Verdict};
@@ -21,8 +21,8 @@ pub fn check_prepared(
     message: &[u8],
     handles: u64,
 ) -> Verdict
-    ensures answer { verdictOf result ≡ checkPrepared state (Doing.message (typeTable rows.now members.now entries.now) message.now handles) root }
-    ensures numbers { verdictNumbers result ≡ numbersOf 0 nothing (checkPrepared state (Doing.message (typeTable rows.now members.now entries.now) message.now handles) root) }
+    ensures answer { verdict_of result ≡ check_prepared state (Doing.message (type_table rows.now members.now entries.now) message.now handles) root }
+    ensures numbers { verdict_numbers result ≡ numbers_of 0 nothing (check_prepared state (Doing.message (type_table rows.now members.now entries.now) message.now handles) root) }
 {
     let agreed = state.agreement(rows, members, entries);
     if let Verdict::Refused(f) = before(agreed, rows, root, message.len(), handles) {

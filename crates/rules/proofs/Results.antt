@@ -8,40 +8,40 @@ use lib.Dec.{leb}
 use borrow.Author.Tests.{leb-true}
 use Rattle.rules.specs.declared.Place.TheVariants.{Byte}
 use Rattle.rules.specs.declared.Fault.{Fault}
-use Rattle.rules.specs.Refusals.{if◌then◌else◌, fault, tooFewHandles, tooManyHandles}
+use Rattle.rules.specs.Refusals.{if◌then◌else◌, fault, too_few_handles, too_many_handles}
 use Rattle.rules.specs.Bytes.{zeros, padded}
-use Rattle.rules.specs.Trace.{Event, handlesOf}
+use Rattle.rules.specs.Trace.{Event, handles_of}
 use Rattle.rules.specs.Decode as D
 use Rattle.rules.specs.Decode.{Message, Decoded, went, stopped, ReadRecord, got, wrong}
 use Rattle.rules.specs.Encode as E
 use Rattle.rules.specs.Encode.{Encoded, wrote, cannot, Encoder, WriteRecord, put, unfit}
 
-pub stopped-not-went : {f : Fault} {vs ws : List ℕ} {s t : List Event} {n u : ℕ} → stopped f vs s ≡ went n u ws t → ⊥
-stopped-not-went e = let z : ◌≡◌ {A = ℕ} 0 1 = cc in omega arith
+pub stopped_not_went : {f : Fault} {vs ws : List ℕ} {s t : List Event} {n u : ℕ} → stopped f vs s ≡ went n u ws t → ⊥
+stopped_not_went e = let z : ◌≡◌ {A = ℕ} 0 1 = cc in omega arith
 
-pub cannot-not-wrote : {number left : ℕ} {inl ool rest : List ℕ} {n u : ℕ} → cannot number left ≡ wrote inl ool n u rest → ⊥
-cannot-not-wrote e = let z : ◌≡◌ {A = ℕ} 0 1 = cc in omega arith
+pub cannot_not_wrote : {number left : ℕ} {inl ool rest : List ℕ} {n u : ℕ} → cannot number left ≡ wrote inl ool n u rest → ⊥
+cannot_not_wrote e = let z : ◌≡◌ {A = ℕ} 0 1 = cc in omega arith
 
 -- ---- tests
 
-pub require-inv : (b : Bool) (f : Fault) (r : Decoded) {n u : ℕ} {vs : List ℕ} {t : List Event} → D.require b f r ≡ went n u vs t → (b ≡ true) × (r ≡ went n u vs t)
-require-inv true f r e = (refl, e)
-require-inv false f r e = absurd (stopped-not-went e)
+pub require_inv : (b : Bool) (f : Fault) (r : Decoded) {n u : ℕ} {vs : List ℕ} {t : List Event} → D.require b f r ≡ went n u vs t → (b ≡ true) × (r ≡ went n u vs t)
+require_inv true f r e = (refl, e)
+require_inv false f r e = absurd (stopped_not_went e)
 
-pub write-require-inv : (b : Bool) (number left : ℕ) (r : Encoded) {inl ool : List ℕ} {n u : ℕ} {rest : List ℕ}
+pub write_require_inv : (b : Bool) (number left : ℕ) (r : Encoded) {inl ool : List ℕ} {n u : ℕ} {rest : List ℕ}
     → E.require b number left r ≡ wrote inl ool n u rest → (b ≡ true) × (r ≡ wrote inl ool n u rest)
-write-require-inv true number left r e = (refl, e)
-write-require-inv false number left r e = absurd (cannot-not-wrote e)
+write_require_inv true number left r e = (refl, e)
+write_require_inv false number left r e = absurd (cannot_not_wrote e)
 
 after_test : (b : Bool) (f : Fault) (n₁ u₁ : ℕ) (vs₁ : List ℕ) (t₁ : List Event) {n u : ℕ} {vs : List ℕ} {t : List Event}
     → (if b then went n₁ u₁ vs₁ t₁ else stopped f vs₁ t₁) ≡ went n u vs t → (b ≡ true) × (went n₁ u₁ vs₁ t₁ ≡ went n u vs t)
 after_test true f n₁ u₁ vs₁ t₁ e = (refl, e)
-after_test false f n₁ u₁ vs₁ t₁ e = absurd (stopped-not-went e)
+after_test false f n₁ u₁ vs₁ t₁ e = absurd (stopped_not_went e)
 
-pub require-after-inv : (holds : ℕ → ℕ → List ℕ → Bool) (f : Fault) (r : Decoded) {n u : ℕ} {vs : List ℕ} {t : List Event}
-    → D.requireAfter holds f r ≡ went n u vs t → (r ≡ went n u vs t) × (holds n u vs ≡ true)
-require-after-inv holds f (stopped g vs₁ t₁) e = absurd (stopped-not-went e)
-require-after-inv holds f (went n₁ u₁ vs₁ t₁) {n} {u} {vs} {t} e =
+pub require_after_inv : (holds : ℕ → ℕ → List ℕ → Bool) (f : Fault) (r : Decoded) {n u : ℕ} {vs : List ℕ} {t : List Event}
+    → D.require_after holds f r ≡ went n u vs t → (r ≡ went n u vs t) × (holds n u vs ≡ true)
+require_after_inv holds f (stopped g vs₁ t₁) e = absurd (stopped_not_went e)
+require_after_inv holds f (went n₁ u₁ vs₁ t₁) {n} {u} {vs} {t} e =
     let i = after_test (holds n₁ u₁ vs₁) f n₁ u₁ vs₁ t₁ e in
     let q : went n₁ u₁ vs₁ t₁ ≡ went n u vs t = i.1 in
     let z : holds n₁ u₁ vs₁ ≡ holds n u vs = cc in
@@ -52,9 +52,9 @@ require-after-inv holds f (went n₁ u₁ vs₁ t₁) {n} {u} {vs} {t} e =
 pub data After (vs₀ : List ℕ) (t₀ : List Event) (r : Decoded) (n u : ℕ) : List ℕ → List Event → Type 0 where
   after : {vs : List ℕ} {t : List Event} → r ≡ went n u vs t → After vs₀ t₀ r n u (vs₀ ++ vs) (t₀ ++ t)
 
-pub after-inv : (vs₀ : List ℕ) (t₀ : List Event) (r : Decoded) {n u : ℕ} {vs : List ℕ} {t : List Event} → D.after vs₀ t₀ r ≡ went n u vs t → After vs₀ t₀ r n u vs t
-after-inv vs₀ t₀ (stopped f vs₁ t₁) e = absurd (stopped-not-went e)
-after-inv vs₀ t₀ (went n₁ u₁ vs₁ t₁) {n} {u} {vs} {t} e =
+pub after_inv : (vs₀ : List ℕ) (t₀ : List Event) (r : Decoded) {n u : ℕ} {vs : List ℕ} {t : List Event} → D.after vs₀ t₀ r ≡ went n u vs t → After vs₀ t₀ r n u vs t
+after_inv vs₀ t₀ (stopped f vs₁ t₁) e = absurd (stopped_not_went e)
+after_inv vs₀ t₀ (went n₁ u₁ vs₁ t₁) {n} {u} {vs} {t} e =
     let x : vs ≡ vs₀ ++ vs₁ = cc in
     let y : t ≡ t₀ ++ t₁ = cc in
     let z : went n₁ u₁ vs₁ t₁ ≡ went n u vs₁ t₁ = cc in
@@ -63,9 +63,9 @@ after-inv vs₀ t₀ (went n₁ u₁ vs₁ t₁) {n} {u} {vs} {t} e =
 pub data WriteAfter (a b : List ℕ) (r : Encoded) (n u : ℕ) (rest : List ℕ) : List ℕ → List ℕ → Type 0 where
   after : {inl ool : List ℕ} → r ≡ wrote inl ool n u rest → WriteAfter a b r n u rest (a ++ inl) (b ++ ool)
 
-pub write-after-inv : (a b : List ℕ) (r : Encoded) {inl ool : List ℕ} {n u : ℕ} {rest : List ℕ} → E.after a b r ≡ wrote inl ool n u rest → WriteAfter a b r n u rest inl ool
-write-after-inv a b (cannot number left) e = absurd (cannot-not-wrote e)
-write-after-inv a b (wrote inl₁ ool₁ n₁ u₁ rest₁) {inl} {ool} {n} {u} {rest} e =
+pub write_after_inv : (a b : List ℕ) (r : Encoded) {inl ool : List ℕ} {n u : ℕ} {rest : List ℕ} → E.after a b r ≡ wrote inl ool n u rest → WriteAfter a b r n u rest inl ool
+write_after_inv a b (cannot number left) e = absurd (cannot_not_wrote e)
+write_after_inv a b (wrote inl₁ ool₁ n₁ u₁ rest₁) {inl} {ool} {n} {u} {rest} e =
     let x : inl ≡ a ++ inl₁ = cc in
     let y : ool ≡ b ++ ool₁ = cc in
     let z : wrote inl₁ ool₁ n₁ u₁ rest₁ ≡ wrote inl₁ ool₁ n u rest = cc in
@@ -76,25 +76,25 @@ write-after-inv a b (wrote inl₁ ool₁ n₁ u₁ rest₁) {inl} {ool} {n} {u} 
 pub data Then (r : Decoded) (k : ℕ → ℕ → Decoded) : ℕ → ℕ → List ℕ → List Event → Type 0 where
   both : {n₁ u₁ n u : ℕ} {vs₁ vs₂ : List ℕ} {t₁ t₂ : List Event} → r ≡ went n₁ u₁ vs₁ t₁ → k n₁ u₁ ≡ went n u vs₂ t₂ → Then r k n u (vs₁ ++ vs₂) (t₁ ++ t₂)
 
-then-after : {vs₁ : List ℕ} {t₁ : List Event} (k : ℕ → ℕ → Decoded) {n₁ u₁ n u : ℕ} {vs : List ℕ} {t : List Event}
+then_after : {vs₁ : List ℕ} {t₁ : List Event} (k : ℕ → ℕ → Decoded) {n₁ u₁ n u : ℕ} {vs : List ℕ} {t : List Event}
     → After vs₁ t₁ (k n₁ u₁) n u vs t → Then (went n₁ u₁ vs₁ t₁) k n u vs t
-then-after k (after e) = both refl e
+then_after k (after e) = both refl e
 
-pub then-inv : (r : Decoded) (k : ℕ → ℕ → Decoded) {n u : ℕ} {vs : List ℕ} {t : List Event} → D.and_then r k ≡ went n u vs t → Then r k n u vs t
-then-inv (stopped f vs₁ t₁) k e = absurd (stopped-not-went e)
-then-inv (went n₁ u₁ vs₁ t₁) k e = then-after k (after-inv vs₁ t₁ (k n₁ u₁) e)
+pub then_inv : (r : Decoded) (k : ℕ → ℕ → Decoded) {n u : ℕ} {vs : List ℕ} {t : List Event} → D.and_then r k ≡ went n u vs t → Then r k n u vs t
+then_inv (stopped f vs₁ t₁) k e = absurd (stopped_not_went e)
+then_inv (went n₁ u₁ vs₁ t₁) k e = then_after k (after_inv vs₁ t₁ (k n₁ u₁) e)
 
 pub data WriteThen (r : Encoded) (k : Encoder) : List ℕ → List ℕ → ℕ → ℕ → List ℕ → Type 0 where
   both : {n₁ u₁ n u : ℕ} {inl₁ ool₁ rest₁ inl₂ ool₂ rest : List ℕ} → r ≡ wrote inl₁ ool₁ n₁ u₁ rest₁ → k rest₁ n₁ u₁ ≡ wrote inl₂ ool₂ n u rest
       → WriteThen r k (inl₁ ++ inl₂) (ool₁ ++ ool₂) n u rest
 
-write-then-after : {inl₁ ool₁ rest₁ : List ℕ} (k : Encoder) {n₁ u₁ n u : ℕ} {inl ool rest : List ℕ}
+write_then_after : {inl₁ ool₁ rest₁ : List ℕ} (k : Encoder) {n₁ u₁ n u : ℕ} {inl ool rest : List ℕ}
     → WriteAfter inl₁ ool₁ (k rest₁ n₁ u₁) n u rest inl ool → WriteThen (wrote inl₁ ool₁ n₁ u₁ rest₁) k inl ool n u rest
-write-then-after k (after e) = both refl e
+write_then_after k (after e) = both refl e
 
-pub write-then-inv : (r : Encoded) (k : Encoder) {inl ool : List ℕ} {n u : ℕ} {rest : List ℕ} → E.and_then r k ≡ wrote inl ool n u rest → WriteThen r k inl ool n u rest
-write-then-inv (cannot number left) k e = absurd (cannot-not-wrote e)
-write-then-inv (wrote inl₁ ool₁ n₁ u₁ rest₁) k e = write-then-after k (write-after-inv inl₁ ool₁ (k rest₁ n₁ u₁) e)
+pub write_then_inv : (r : Encoded) (k : Encoder) {inl ool : List ℕ} {n u : ℕ} {rest : List ℕ} → E.and_then r k ≡ wrote inl ool n u rest → WriteThen r k inl ool n u rest
+write_then_inv (cannot number left) k e = absurd (cannot_not_wrote e)
+write_then_inv (wrote inl₁ ool₁ n₁ u₁ rest₁) k e = write_then_after k (write_after_inv inl₁ ool₁ (k rest₁ n₁ u₁) e)
 
 -- ---- records
 
@@ -104,52 +104,52 @@ pub data Record (r : ReadRecord) (k : ℕ → Decoded) (n u : ℕ) : List ℕ �
 record-after : (v : ℕ) (k : ℕ → Decoded) {n u : ℕ} {vs : List ℕ} {t : List Event} → After (v ∷ []) [] (k v) n u vs t → Record (got v) k n u vs t
 record-after v k (after e) = record_of refl e
 
-pub record-inv : (r : ReadRecord) (k : ℕ → Decoded) {n u : ℕ} {vs : List ℕ} {t : List Event} → D.recordGoes r k ≡ went n u vs t → Record r k n u vs t
-record-inv (wrong f) k e = absurd (stopped-not-went e)
-record-inv (got v) k e = record-after v k (after-inv (v ∷ []) [] (k v) e)
+pub record-inv : (r : ReadRecord) (k : ℕ → Decoded) {n u : ℕ} {vs : List ℕ} {t : List Event} → D.record_goes r k ≡ went n u vs t → Record r k n u vs t
+record-inv (wrong f) k e = absurd (stopped_not_went e)
+record-inv (got v) k e = record-after v k (after_inv (v ∷ []) [] (k v) e)
 
 pub data WriteOf (write : ℕ → WriteRecord) (k : ℕ → Encoder) (n u n₁ u₁ : ℕ) (rest : List ℕ) : List ℕ → List ℕ → List ℕ → Type 0 where
   record_of : {v : ℕ} {vs bytes inl ool : List ℕ} → write v ≡ put bytes → k v vs n u ≡ wrote inl ool n₁ u₁ rest
       → WriteOf write k n u n₁ u₁ rest (v ∷ vs) (bytes ++ inl) ool
 
-write-record-after : {write : ℕ → WriteRecord} (k : ℕ → Encoder) {v n u n₁ u₁ : ℕ} {vs bytes rest inl ool : List ℕ} → write v ≡ put bytes
+write_record_after : {write : ℕ → WriteRecord} (k : ℕ → Encoder) {v n u n₁ u₁ : ℕ} {vs bytes rest inl ool : List ℕ} → write v ≡ put bytes
     → WriteAfter bytes [] (k v vs n u) n₁ u₁ rest inl ool → WriteOf write k n u n₁ u₁ rest (v ∷ vs) inl ool
-write-record-after k q (after e) = record_of q e
+write_record_after k q (after e) = record_of q e
 
-write-record-go : (write : ℕ → WriteRecord) (k : ℕ → Encoder) (v n u left : ℕ) (vs : List ℕ) (w : WriteRecord) → write v ≡ w → {n₁ u₁ : ℕ} {rest inl ool : List ℕ}
-    → E.recordGoes w left (k v vs n u) ≡ wrote inl ool n₁ u₁ rest → WriteOf write k n u n₁ u₁ rest (v ∷ vs) inl ool
-write-record-go write k v n u left vs unfit q e = absurd (cannot-not-wrote e)
-write-record-go write k v n u left vs (put bytes) q e = write-record-after k q (write-after-inv bytes [] (k v vs n u) e)
+write_record_go : (write : ℕ → WriteRecord) (k : ℕ → Encoder) (v n u left : ℕ) (vs : List ℕ) (w : WriteRecord) → write v ≡ w → {n₁ u₁ : ℕ} {rest inl ool : List ℕ}
+    → E.record_goes w left (k v vs n u) ≡ wrote inl ool n₁ u₁ rest → WriteOf write k n u n₁ u₁ rest (v ∷ vs) inl ool
+write_record_go write k v n u left vs unfit q e = absurd (cannot_not_wrote e)
+write_record_go write k v n u left vs (put bytes) q e = write_record_after k q (write_after_inv bytes [] (k v vs n u) e)
 
-pub write-record-inv : (write : ℕ → WriteRecord) (k : ℕ → Encoder) (vs : List ℕ) {n u n₁ u₁ : ℕ} {rest inl ool : List ℕ}
-    → E.recordThen write k vs n u ≡ wrote inl ool n₁ u₁ rest → WriteOf write k n u n₁ u₁ rest vs inl ool
-unfolding E.recordThen
-write-record-inv write k [] e = absurd (cannot-not-wrote e)
-write-record-inv write k (v ∷ vs) {n} {u} e = write-record-go write k v n u (E.lastTaken vs) vs (write v) refl e
+pub write_record_inv : (write : ℕ → WriteRecord) (k : ℕ → Encoder) (vs : List ℕ) {n u n₁ u₁ : ℕ} {rest inl ool : List ℕ}
+    → E.record_then write k vs n u ≡ wrote inl ool n₁ u₁ rest → WriteOf write k n u n₁ u₁ rest vs inl ool
+unfolding E.record_then
+write_record_inv write k [] e = absurd (cannot_not_wrote e)
+write_record_inv write k (v ∷ vs) {n} {u} e = write_record_go write k v n u (E.last_taken vs) vs (write v) refl e
 
 -- ---- handles
 
 pub data Took (m : Message) (event : Event) (n u : ℕ) : ℕ → ℕ → List ℕ → List Event → Type 0 where
-  took : u + handlesOf event ≤ m.handles → Took m event n u n (u + handlesOf event) [] (event ∷ [])
+  took : u + handles_of event ≤ m.handles → Took m event n u n (u + handles_of event) [] (event ∷ [])
 
-pub took-inv : (m : Message) (word_at : ℕ) (event : Event) (at n u : ℕ) {n₁ u₁ : ℕ} {vs : List ℕ} {t : List Event}
-    → D.takeHandles m word_at event at n u ≡ went n₁ u₁ vs t → Took m event n u n₁ u₁ vs t
-unfolding D.takeHandles
-took-inv m word_at event at n u {n₁} {u₁} {vs} {t} e =
-    let i = require-inv (leb (u + handlesOf event) m.handles) (fault tooFewHandles (Byte word_at)) (went n (u + handlesOf event) [] (event ∷ [])) e in
+pub took_inv : (m : Message) (word_at : ℕ) (event : Event) (at n u : ℕ) {n₁ u₁ : ℕ} {vs : List ℕ} {t : List Event}
+    → D.take_handles m word_at event at n u ≡ went n₁ u₁ vs t → Took m event n u n₁ u₁ vs t
+unfolding D.take_handles
+took_inv m word_at event at n u {n₁} {u₁} {vs} {t} e =
+    let i = require_inv (leb (u + handles_of event) m.handles) (fault too_few_handles (Byte word_at)) (went n (u + handles_of event) [] (event ∷ [])) e in
     let a : n₁ ≡ n = cc in
-    let b : u₁ ≡ u + handlesOf event = cc in
+    let b : u₁ ≡ u + handles_of event = cc in
     let c : vs ≡ [] = cc in
     let d : t ≡ event ∷ [] = cc in
-    rw (a, b, c, d) (took (leb-true (u + handlesOf event) m.handles i.0))
+    rw (a, b, c, d) (took (leb-true (u + handles_of event) m.handles i.0))
 
 pub data Taken (count : ℕ) (vs : List ℕ) (n u : ℕ) : List ℕ → List ℕ → ℕ → ℕ → List ℕ → Type 0 where
   taken : u + count ≤ 64 → Taken count vs n u [] [] n (u + count) vs
 
-pub taken-inv : (count : ℕ) (vs : List ℕ) (n u : ℕ) {inl ool : List ℕ} {n₁ u₁ : ℕ} {rest : List ℕ} → E.takeHandles count vs n u ≡ wrote inl ool n₁ u₁ rest → Taken count vs n u inl ool n₁ u₁ rest
-unfolding E.takeHandles
-taken-inv count vs n u {inl} {ool} {n₁} {u₁} {rest} e =
-    let i = write-require-inv (leb (u + count) 64) tooManyHandles (E.lastTaken vs) (wrote [] [] n (u + count) vs) e in
+pub taken_inv : (count : ℕ) (vs : List ℕ) (n u : ℕ) {inl ool : List ℕ} {n₁ u₁ : ℕ} {rest : List ℕ} → E.take_handles count vs n u ≡ wrote inl ool n₁ u₁ rest → Taken count vs n u inl ool n₁ u₁ rest
+unfolding E.take_handles
+taken_inv count vs n u {inl} {ool} {n₁} {u₁} {rest} e =
+    let i = write_require_inv (leb (u + count) 64) too_many_handles (E.last_taken vs) (wrote [] [] n (u + count) vs) e in
     let a : inl ≡ [] = cc in
     let b : ool ≡ [] = cc in
     let c : n₁ ≡ n = cc in
@@ -162,9 +162,9 @@ taken-inv count vs n u {inl} {ool} {n₁} {u₁} {rest} e =
 pub data AsObject (size : ℕ) (r : Encoded) (n u : ℕ) (rest : List ℕ) : List ℕ → List ℕ → Type 0 where
   object : {inl ool : List ℕ} → r ≡ wrote inl ool n u rest → AsObject size r n u rest [] ((inl ++ zeros (padded size - size)) ++ ool)
 
-pub object-inv : (size : ℕ) (r : Encoded) {inl ool : List ℕ} {n u : ℕ} {rest : List ℕ} → E.asObject size r ≡ wrote inl ool n u rest → AsObject size r n u rest inl ool
-object-inv size (cannot number left) e = absurd (cannot-not-wrote e)
-object-inv size (wrote inl₁ ool₁ n₁ u₁ rest₁) {inl} {ool} {n} {u} {rest} e =
+pub object_inv : (size : ℕ) (r : Encoded) {inl ool : List ℕ} {n u : ℕ} {rest : List ℕ} → E.as_object size r ≡ wrote inl ool n u rest → AsObject size r n u rest inl ool
+object_inv size (cannot number left) e = absurd (cannot_not_wrote e)
+object_inv size (wrote inl₁ ool₁ n₁ u₁ rest₁) {inl} {ool} {n} {u} {rest} e =
     let x : inl ≡ [] = cc in
     let y : ool ≡ (inl₁ ++ zeros (padded size - size)) ++ ool₁ = cc in
     let z : wrote inl₁ ool₁ n₁ u₁ rest₁ ≡ wrote inl₁ ool₁ n u rest = cc in

@@ -9,26 +9,26 @@ use borrow.Author.Tests.{eqb-true, eq-eqb}
 use lib.ListN.{length, length-append}
 use Rattle.rules.specs.declared.Place.TheVariants.{Byte}
 use Rattle.rules.specs.declared.Fault.{Fault}
-use Rattle.rules.specs.Refusals.{fault, fillNotZero}
+use Rattle.rules.specs.Refusals.{fault, fill_not_zero}
 use Rattle.rules.specs.Bytes.{Octets, part, zeros, leading_zeros}
-use Rattle.rules.specs.Trace.{Event, objectList, presentHandles, unknownHandles, unknownOutOfLine, unknownLengths, Tiles}
+use Rattle.rules.specs.Trace.{Event, object_list, present_handles, unknown_handles, unknown_out_of_line, unknown_lengths, Tiles}
 use Rattle.rules.specs.Decode as D
 use Rattle.rules.specs.Decode.{Message, went, Decoder}
 use Rattle.rules.specs.Encode as E
 use Rattle.rules.specs.Encode.{wrote, Encoder}
-use Rattle.rules.proofs.Bytes.{StandsAt, stands-nil, stands-left, stands-right, stands-join, stands-part, part_length, zeros-length, leadingZeros-zeros, zeros-leadingZeros, octets-append, octets-zeros, octets-nil}
-use Rattle.rules.proofs.Trace.{allHandles, allHandles-append, tiles-append, UnknownAreObjects, unknown-append}
-use Rattle.rules.proofs.Results.{stopped-not-went, cannot-not-wrote, require-inv, Then, then-inv, WriteThen, write-then-inv}
+use Rattle.rules.proofs.Bytes.{StandsAt, stands_nil, stands_left, stands_right, stands_join, stands_part, part_length, zeros_length, leading_zeros_zeros, zeros_leading_zeros, octets_append, octets_zeros, octets_nil}
+use Rattle.rules.proofs.Trace.{all_handles, all_handles_append, tiles_append, UnknownAreObjects, unknown_append}
+use Rattle.rules.proofs.Results.{stopped_not_went, cannot_not_wrote, require_inv, Then, then_inv, WriteThen, write_then_inv}
 
 -- What an encoder wrote: so many bytes in line; whole objects after the next free place; all of it within the limits.
 pub record WellFormed (size n u : ℕ) (inl ool : List ℕ) (n₁ u₁ : ℕ) : Type 0 where
   pub sized : length inl ≡ size
   pub advances : n₁ ≡ n + length ool
   pub used : u ≤ u₁
-  pub inlineOctets : Octets inl
-  pub outOctets : Octets ool
-  pub withinBytes : n ≤ 65536 → n₁ ≤ 65536
-  pub withinHandles : u ≤ 64 → u₁ ≤ 64
+  pub inline_octets : Octets inl
+  pub out_octets : Octets ool
+  pub within_bytes : n ≤ 65536 → n₁ ≤ 65536
+  pub within_handles : u ≤ 64 → u₁ ≤ 64
   pub whole : length ool % 8 ≡ 0
 
 -- A decoder goes on at a place, giving the numbers of `vs` that stand before `rest`.
@@ -41,16 +41,16 @@ pub record Encodes (m : Message) (g : Encoder) (at n u n₁ u₁ : ℕ) (vs : Li
   pub ool : List ℕ
   pub writes : g (vs ++ rest) n u ≡ wrote inl ool n₁ u₁ rest
   pub inline : StandsAt m.bytes at inl
-  pub outOfLine : StandsAt m.bytes n ool
-  pub tiles : Tiles n n₁ (objectList t)
-  pub handles : u₁ ≡ u + allHandles t
+  pub out_of_line : StandsAt m.bytes n ool
+  pub tiles : Tiles n n₁ (object_list t)
+  pub handles : u₁ ≡ u + all_handles t
   pub unknowns : UnknownAreObjects t
 
 pub record Twins (m : Message) (size : ℕ) (f : Decoder) (g : Encoder) : Type 0 where
-  pub wellFormed : {vs : List ℕ} {n u : ℕ} {inl ool : List ℕ} {n₁ u₁ : ℕ} {rest : List ℕ} → g vs n u ≡ wrote inl ool n₁ u₁ rest → WellFormed size n u inl ool n₁ u₁
-  pub decodesWhatWasEncoded : {vs : List ℕ} {n u : ℕ} {inl ool : List ℕ} {n₁ u₁ : ℕ} {rest : List ℕ} → g vs n u ≡ wrote inl ool n₁ u₁ rest
+  pub well_formed : {vs : List ℕ} {n u : ℕ} {inl ool : List ℕ} {n₁ u₁ : ℕ} {rest : List ℕ} → g vs n u ≡ wrote inl ool n₁ u₁ rest → WellFormed size n u inl ool n₁ u₁
+  pub decodes_what_was_encoded : {vs : List ℕ} {n u : ℕ} {inl ool : List ℕ} {n₁ u₁ : ℕ} {rest : List ℕ} → g vs n u ≡ wrote inl ool n₁ u₁ rest
       → {at : ℕ} → StandsAt m.bytes at inl → StandsAt m.bytes n ool → u₁ ≤ m.handles → Decodes f at n u n₁ u₁ vs rest
-  pub encodesWhatWasDecoded : {at n u n₁ u₁ : ℕ} {vs : List ℕ} {t : List Event} → f at n u ≡ went n₁ u₁ vs t
+  pub encodes_what_was_decoded : {at n u n₁ u₁ : ℕ} {vs : List ℕ} {t : List Event} → f at n u ≡ went n₁ u₁ vs t
       → at + size ≤ length m.bytes → n ≤ length m.bytes → (rest : List ℕ) → Encodes m g at n u n₁ u₁ vs t rest
 
 -- ---- parts that take nothing from the list, claim nothing and use no handle
@@ -63,143 +63,143 @@ plain_form bytes o l {vs} {n} {u} {inl} {ool} {n₁} {u₁} {rest} e =
     let c : n ≡ n₁ = cc in
     let d : u ≡ u₁ = cc in
     rw (← a, ← b, ← c, ← d)
-    (record { sized = l; advances = omega arith; used = omega arith; inlineOctets = o; outOctets = octets-nil; withinBytes = omega arith; withinHandles = omega arith; whole = omega arith })
+    (record { sized = l; advances = omega arith; used = omega arith; inline_octets = o; out_octets = octets_nil; within_bytes = omega arith; within_handles = omega arith; whole = omega arith })
 
-plain-decodes : {f : Decoder} (bytes : List ℕ) {at : ℕ} {vs : List ℕ} {n u : ℕ} {inl ool : List ℕ} {n₁ u₁ : ℕ} {rest : List ℕ}
+plain_decodes : {f : Decoder} (bytes : List ℕ) {at : ℕ} {vs : List ℕ} {n u : ℕ} {inl ool : List ℕ} {n₁ u₁ : ℕ} {rest : List ℕ}
     → wrote bytes [] n u vs ≡ wrote inl ool n₁ u₁ rest → f at n u ≡ went n u [] [] → Decodes f at n u n₁ u₁ vs rest
-plain-decodes bytes {at} {vs} {n} {u} {inl} {ool} {n₁} {u₁} {rest} e q =
+plain_decodes bytes {at} {vs} {n} {u} {inl} {ool} {n₁} {u₁} {rest} e q =
     let x : vs ≡ rest = cc in
     let c : n ≡ n₁ = cc in
     let d : u ≡ u₁ = cc in
     rw (x, ← c, ← d) (decodes [] [] q)
 
-plain-encodes : (m : Message) {g : Encoder} (bytes : List ℕ) {at n u n₁ u₁ : ℕ} {vs : List ℕ} {t : List Event} (rest : List ℕ)
+plain_encodes : (m : Message) {g : Encoder} (bytes : List ℕ) {at n u n₁ u₁ : ℕ} {vs : List ℕ} {t : List Event} (rest : List ℕ)
     → went n u [] [] ≡ went n₁ u₁ vs t → g rest n u ≡ wrote bytes [] n u rest → StandsAt m.bytes at bytes → n ≤ length m.bytes → Encodes m g at n u n₁ u₁ vs t rest
-unfolding objectList presentHandles unknownHandles unknownOutOfLine unknownLengths Tiles
-plain-encodes m bytes {at} {n} {u} {n₁} {u₁} {vs} {t} rest e q h k =
+unfolding object_list present_handles unknown_handles unknown_out_of_line unknown_lengths Tiles
+plain_encodes m bytes {at} {n} {u} {n₁} {u₁} {vs} {t} rest e q h k =
     let a : [] ≡ vs = cc in
     let b : [] ≡ t = cc in
     let c : n ≡ n₁ = cc in
     let d : u ≡ u₁ = cc in
     rw (← a, ← b, ← c, ← d)
-    (record { inl = bytes; ool = []; writes = q; inline = h; outOfLine = stands-nil m.bytes n k; tiles = refl; handles = omega arith; unknowns = refl })
+    (record { inl = bytes; ool = []; writes = q; inline = h; out_of_line = stands_nil m.bytes n k; tiles = refl; handles = omega arith; unknowns = refl })
 
-pub twins-nothing : (m : Message) → Twins m 0 D.nothing E.nothing
-twins-nothing m = record {
-  wellFormed = λ e. plain_form [] octets-nil refl e;
-  decodesWhatWasEncoded = λ e h k l. plain-decodes [] e refl;
-  encodesWhatWasDecoded = λ {at} e h k rest. plain-encodes m [] rest e refl (stands-nil m.bytes at (omega arith)) k;
+pub twins_nothing : (m : Message) → Twins m 0 D.nothing E.nothing
+twins_nothing m = record {
+  well_formed = λ e. plain_form [] octets_nil refl e;
+  decodes_what_was_encoded = λ e h k l. plain_decodes [] e refl;
+  encodes_what_was_decoded = λ {at} e h k rest. plain_encodes m [] rest e refl (stands_nil m.bytes at (omega arith)) k;
 }
 
-pub twins-refuse : (m : Message) (size : ℕ) (f : Fault) (number : ℕ) → Twins m size (D.refuse f) (E.refuse number)
-twins-refuse m size f number = record {
-  wellFormed = λ e. absurd (cannot-not-wrote e);
-  decodesWhatWasEncoded = λ e h k l. absurd (cannot-not-wrote e);
-  encodesWhatWasDecoded = λ e h k rest. absurd (stopped-not-went e);
+pub twins_refuse : (m : Message) (size : ℕ) (f : Fault) (number : ℕ) → Twins m size (D.refuse f) (E.refuse number)
+twins_refuse m size f number = record {
+  well_formed = λ e. absurd (cannot_not_wrote e);
+  decodes_what_was_encoded = λ e h k l. absurd (cannot_not_wrote e);
+  encodes_what_was_decoded = λ e h k rest. absurd (stopped_not_went e);
 }
 
-pub twins-size : (m : Message) {s t : ℕ} {f : Decoder} {g : Encoder} → s ≡ t → Twins m s f g → Twins m t f g
-twins-size m e a = rw e at a
+pub twins_size : (m : Message) {s t : ℕ} {f : Decoder} {g : Encoder} → s ≡ t → Twins m s f g → Twins m t f g
+twins_size m e a = rw e at a
 
 -- ---- one after the other
 
 module _ (m : Message) {s t : ℕ} {f f₂ : Decoder} {g g₂ : Encoder} (a : Twins m s f g) (b : Twins m t f₂ g₂) where
-  sequence-form : {n u : ℕ} {inl ool : List ℕ} {n₁ u₁ : ℕ} {rest vs : List ℕ} → WriteThen (g vs n u) g₂ inl ool n₁ u₁ rest → WellFormed (s + t) n u inl ool n₁ u₁
-  sequence-form (WriteThen.both e₁ e₂) =
-      let x = a.wellFormed e₁ in
-      let y = b.wellFormed e₂ in
+  sequence_form : {n u : ℕ} {inl ool : List ℕ} {n₁ u₁ : ℕ} {rest vs : List ℕ} → WriteThen (g vs n u) g₂ inl ool n₁ u₁ rest → WellFormed (s + t) n u inl ool n₁ u₁
+  sequence_form (WriteThen.both e₁ e₂) =
+      let x = a.well_formed e₁ in
+      let y = b.well_formed e₂ in
       record {
         sized = rw length-append (omega arith);
         advances = rw length-append (omega arith);
         used = omega arith;
-        inlineOctets = octets-append _ _ x.inlineOctets y.inlineOctets;
-        outOctets = octets-append _ _ x.outOctets y.outOctets;
-        withinBytes = λ h. y.withinBytes (x.withinBytes h);
-        withinHandles = λ h. y.withinHandles (x.withinHandles h);
+        inline_octets = octets_append _ _ x.inline_octets y.inline_octets;
+        out_octets = octets_append _ _ x.out_octets y.out_octets;
+        within_bytes = λ h. y.within_bytes (x.within_bytes h);
+        within_handles = λ h. y.within_handles (x.within_handles h);
         whole = rw length-append (omega (arith, x.whole, y.whole));
       }
 
-  sequence-run : {at n u n₁ u₁ n₂ u₂ : ℕ} {vs vs₁ rest : List ℕ} → Decodes f at n u n₁ u₁ vs vs₁ → Decodes f₂ (at + s) n₁ u₁ n₂ u₂ vs₁ rest
+  sequence_run : {at n u n₁ u₁ n₂ u₂ : ℕ} {vs vs₁ rest : List ℕ} → Decodes f at n u n₁ u₁ vs vs₁ → Decodes f₂ (at + s) n₁ u₁ n₂ u₂ vs₁ rest
       → Decodes (D.sequence s f f₂) at n u n₂ u₂ vs rest
   unfolding D.sequence
-  sequence-run (decodes v t₁ e) (decodes w t₂ d) = rw (← append_assoc) (decodes (v ++ w) (t₁ ++ t₂) (rw (e, d)))
+  sequence_run (decodes v t₁ e) (decodes w t₂ d) = rw (← append_assoc) (decodes (v ++ w) (t₁ ++ t₂) (rw (e, d)))
 
-  sequence-decodes : {n u : ℕ} {inl ool : List ℕ} {n₁ u₁ : ℕ} {rest vs : List ℕ} → WriteThen (g vs n u) g₂ inl ool n₁ u₁ rest
+  sequence_decodes : {n u : ℕ} {inl ool : List ℕ} {n₁ u₁ : ℕ} {rest vs : List ℕ} → WriteThen (g vs n u) g₂ inl ool n₁ u₁ rest
       → {at : ℕ} → StandsAt m.bytes at inl → StandsAt m.bytes n ool → u₁ ≤ m.handles → Decodes (D.sequence s f f₂) at n u n₁ u₁ vs rest
-  sequence-decodes {n} (WriteThen.both {inl₁ = inl₁} {ool₁ = ool₁} {inl₂ = inl₂} {ool₂ = ool₂} e₁ e₂) {at} h k l =
-      let x = a.wellFormed e₁ in
-      let y = b.wellFormed e₂ in
-      sequence-run (a.decodesWhatWasEncoded e₁ (stands-left m.bytes at inl₁ inl₂ h) (stands-left m.bytes n ool₁ ool₂ k) (omega arith))
-      (b.decodesWhatWasEncoded e₂ (rw x.sized at (stands-right m.bytes at inl₁ inl₂ h)) (rw (← x.advances) at (stands-right m.bytes n ool₁ ool₂ k)) l)
+  sequence_decodes {n} (WriteThen.both {inl₁ = inl₁} {ool₁ = ool₁} {inl₂ = inl₂} {ool₂ = ool₂} e₁ e₂) {at} h k l =
+      let x = a.well_formed e₁ in
+      let y = b.well_formed e₂ in
+      sequence_run (a.decodes_what_was_encoded e₁ (stands_left m.bytes at inl₁ inl₂ h) (stands_left m.bytes n ool₁ ool₂ k) (omega arith))
+      (b.decodes_what_was_encoded e₂ (rw x.sized at (stands_right m.bytes at inl₁ inl₂ h)) (rw (← x.advances) at (stands_right m.bytes n ool₁ ool₂ k)) l)
 
-  sequence-joined : {at n u n₁ u₁ n₂ u₂ : ℕ} {vs₁ vs₂ : List ℕ} {t₁ t₂ : List Event} {rest : List ℕ} (x : Encodes m g at n u n₁ u₁ vs₁ t₁ (vs₂ ++ rest))
+  sequence_joined : {at n u n₁ u₁ n₂ u₂ : ℕ} {vs₁ vs₂ : List ℕ} {t₁ t₂ : List Event} {rest : List ℕ} (x : Encodes m g at n u n₁ u₁ vs₁ t₁ (vs₂ ++ rest))
       → WellFormed s n u x.inl x.ool n₁ u₁ → Encodes m g₂ (at + s) n₁ u₁ n₂ u₂ vs₂ t₂ rest → Encodes m (E.sequence g g₂) at n u n₂ u₂ (vs₁ ++ vs₂) (t₁ ++ t₂) rest
   unfolding E.sequence
-  sequence-joined {at} {n} {u} {n₁} {u₁} {n₂} {u₂} {vs₁} {vs₂} {t₁} {t₂} {rest} x w y = record {
+  sequence_joined {at} {n} {u} {n₁} {u₁} {n₂} {u₂} {vs₁} {vs₂} {t₁} {t₂} {rest} x w y = record {
     inl = x.inl ++ y.inl;
     ool = x.ool ++ y.ool;
     writes = rw (append_assoc, x.writes, y.writes);
-    inline = stands-join m.bytes at _ _ x.inline (rw w.sized y.inline);
-    outOfLine = stands-join m.bytes n _ _ x.outOfLine (rw (← w.advances) y.outOfLine);
-    tiles = tiles-append n n₁ n₂ t₁ t₂ x.tiles y.tiles;
-    handles = omega (arith, x.handles, y.handles, allHandles-append t₁ t₂);
-    unknowns = unknown-append t₁ t₂ x.unknowns y.unknowns;
+    inline = stands_join m.bytes at _ _ x.inline (rw w.sized y.inline);
+    out_of_line = stands_join m.bytes n _ _ x.out_of_line (rw (← w.advances) y.out_of_line);
+    tiles = tiles_append n n₁ n₂ t₁ t₂ x.tiles y.tiles;
+    handles = omega (arith, x.handles, y.handles, all_handles_append t₁ t₂);
+    unknowns = unknown_append t₁ t₂ x.unknowns y.unknowns;
   }
 
-  sequence-encodes : {at n u n₁ u₁ : ℕ} {vs : List ℕ} {tr : List Event} → Then (f at n u) (λ n₁ u₁. f₂ (at + s) n₁ u₁) n₁ u₁ vs tr
+  sequence_encodes : {at n u n₁ u₁ : ℕ} {vs : List ℕ} {tr : List Event} → Then (f at n u) (λ n₁ u₁. f₂ (at + s) n₁ u₁) n₁ u₁ vs tr
       → at + (s + t) ≤ length m.bytes → n ≤ length m.bytes → (rest : List ℕ) → Encodes m (E.sequence g g₂) at n u n₁ u₁ vs tr rest
-  sequence-encodes (Then.both {vs₂ = vs₂} e₁ e₂) h k rest =
-      let x = a.encodesWhatWasDecoded e₁ (omega arith) k (vs₂ ++ rest) in
-      let w = a.wellFormed x.writes in
-      sequence-joined x w (b.encodesWhatWasDecoded e₂ (omega arith) (omega (arith, x.outOfLine.fits, w.advances)) rest)
+  sequence_encodes (Then.both {vs₂ = vs₂} e₁ e₂) h k rest =
+      let x = a.encodes_what_was_decoded e₁ (omega arith) k (vs₂ ++ rest) in
+      let w = a.well_formed x.writes in
+      sequence_joined x w (b.encodes_what_was_decoded e₂ (omega arith) (omega (arith, x.out_of_line.fits, w.advances)) rest)
 
-  pub twins-sequence : Twins m (s + t) (D.sequence s f f₂) (E.sequence g g₂)
+  pub twins_sequence : Twins m (s + t) (D.sequence s f f₂) (E.sequence g g₂)
   unfolding D.sequence E.sequence
-  twins-sequence = record {
-    wellFormed = λ {vs} {n} {u} e. sequence-form (write-then-inv (g vs n u) g₂ e);
-    decodesWhatWasEncoded = λ {vs} {n} {u} e h k l. sequence-decodes (write-then-inv (g vs n u) g₂ e) h k l;
-    encodesWhatWasDecoded = λ {at} {n} {u} e h k rest. sequence-encodes (then-inv (f at n u) (λ n₁ u₁. f₂ (at + s) n₁ u₁) e) h k rest;
+  twins_sequence = record {
+    well_formed = λ {vs} {n} {u} e. sequence_form (write_then_inv (g vs n u) g₂ e);
+    decodes_what_was_encoded = λ {vs} {n} {u} e h k l. sequence_decodes (write_then_inv (g vs n u) g₂ e) h k l;
+    encodes_what_was_decoded = λ {at} {n} {u} e h k rest. sequence_encodes (then_inv (f at n u) (λ n₁ u₁. f₂ (at + s) n₁ u₁) e) h k rest;
   }
 
-elements-step : (m : Message) (s c : ℕ) {f f₂ : Decoder} {g g₂ : Encoder} → Twins m s f g → Twins m (c * s) f₂ g₂ → Twins m (suc c * s) (D.sequence s f f₂) (E.sequence g g₂)
-elements-step m s c a b =
+elements_step : (m : Message) (s c : ℕ) {f f₂ : Decoder} {g g₂ : Encoder} → Twins m s f g → Twins m (c * s) f₂ g₂ → Twins m (suc c * s) (D.sequence s f f₂) (E.sequence g g₂)
+elements_step m s c a b =
     let e : s + c * s ≡ suc c * s = omega arith in
-    twins-size m e (twins-sequence m a b)
+    twins_size m e (twins_sequence m a b)
 
-pub twins-elements : (m : Message) (s : ℕ) (parts : ℕ → Decoder) (twins : ℕ → Encoder) → ((i : ℕ) → Twins m s (parts i) (twins i))
+pub twins_elements : (m : Message) (s : ℕ) (parts : ℕ → Decoder) (twins : ℕ → Encoder) → ((i : ℕ) → Twins m s (parts i) (twins i))
     → (i c : ℕ) → Twins m (c * s) (D.elements s parts i c) (E.elements twins i c)
 unfolding D.elements E.elements
-twins-elements m s parts twins a i zero = let e : 0 ≡ 0 * s = omega arith in twins-size m e (twins-nothing m)
-twins-elements m s parts twins a i (suc c) = elements-step m s c (a i) (twins-elements m s parts twins a (suc i) c)
+twins_elements m s parts twins a i zero = let e : 0 ≡ 0 * s = omega arith in twins_size m e (twins_nothing m)
+twins_elements m s parts twins a i (suc c) = elements_step m s c (a i) (twins_elements m s parts twins a (suc i) c)
 
 -- ---- fill
 
-pub zero-standing : (bytes : List ℕ) (at k : ℕ) → StandsAt bytes at (zeros k) → eqb (leading_zeros (part bytes at k)) k ≡ true
-zero-standing bytes at k h =
-    let e : part bytes at k ≡ zeros k = rw zeros-length at h.same in
-    eq-eqb (leading_zeros (part bytes at k)) k (rw e (leadingZeros-zeros k))
+pub zero_standing : (bytes : List ℕ) (at k : ℕ) → StandsAt bytes at (zeros k) → eqb (leading_zeros (part bytes at k)) k ≡ true
+zero_standing bytes at k h =
+    let e : part bytes at k ≡ zeros k = rw zeros_length at h.same in
+    eq-eqb (leading_zeros (part bytes at k)) k (rw e (leading_zeros_zeros k))
 
-pub standing-zero : (bytes : List ℕ) (at k : ℕ) → eqb (leading_zeros (part bytes at k)) k ≡ true → at + k ≤ length bytes → StandsAt bytes at (zeros k)
-standing-zero bytes at k e h =
+pub standing_zero : (bytes : List ℕ) (at k : ℕ) → eqb (leading_zeros (part bytes at k)) k ≡ true → at + k ≤ length bytes → StandsAt bytes at (zeros k)
+standing_zero bytes at k e h =
     let l = part_length bytes at k h in
-    let z : part bytes at k ≡ zeros k = zeros-leadingZeros (part bytes at k) (eqb-true _ _ e ∙ sym l) ∙ ap zeros l in
-    rw z at (stands-part bytes at k h)
+    let z : part bytes at k ≡ zeros k = zeros_leading_zeros (part bytes at k) (eqb-true _ _ e ∙ sym l) ∙ ap zeros l in
+    rw z at (stands_part bytes at k h)
 
 -- A part that gives nothing where `k` bytes are zero and is stopped elsewhere; its twin writes the zeros.
-pub twins-zeros : (m : Message) (k : ℕ) (f : Decoder) (fault-at : ℕ → Fault) → ((at n u : ℕ) → f at n u ≡ D.require (D.is_zero m at k) (fault-at at) (went n u [] []))
+pub twins_zeros : (m : Message) (k : ℕ) (f : Decoder) (fault-at : ℕ → Fault) → ((at n u : ℕ) → f at n u ≡ D.require (D.is_zero m at k) (fault-at at) (went n u [] []))
     → Twins m k f (E.fill k)
-unfolding E.inlineBytes
-twins-zeros m j f fault-at is = record {
-  wellFormed = λ e. plain_form (zeros j) (octets-zeros j) (zeros-length j) e;
-  decodesWhatWasEncoded = λ {vs} {n} {u} {inl} {ool} {n₁} {u₁} {rest} e {at} h k l.
+unfolding E.inline_bytes
+twins_zeros m j f fault-at is = record {
+  well_formed = λ e. plain_form (zeros j) (octets_zeros j) (zeros_length j) e;
+  decodes_what_was_encoded = λ {vs} {n} {u} {inl} {ool} {n₁} {u₁} {rest} e {at} h k l.
       let a : inl ≡ zeros j = cc in
-      let z : D.is_zero m at j ≡ true = zero-standing m.bytes at j (rw a at h) in
-      plain-decodes (zeros j) e (rw (is at n u, z));
-  encodesWhatWasDecoded = λ {at} {n} {u} {n₁} {u₁} {vs} {t} e h k rest.
-      let i = require-inv (D.is_zero m at j) (fault-at at) (went n u [] []) (rw (is at n u) at e) in
-      plain-encodes m (zeros j) rest i.1 refl (standing-zero m.bytes at j i.0 h) k;
+      let z : D.is_zero m at j ≡ true = zero_standing m.bytes at j (rw a at h) in
+      plain_decodes (zeros j) e (rw (is at n u, z));
+  encodes_what_was_decoded = λ {at} {n} {u} {n₁} {u₁} {vs} {t} e h k rest.
+      let i = require_inv (D.is_zero m at j) (fault-at at) (went n u [] []) (rw (is at n u) at e) in
+      plain_encodes m (zeros j) rest i.1 refl (standing_zero m.bytes at j i.0 h) k;
 }
 
-pub twins-fill : (m : Message) (k : ℕ) → Twins m k (D.fill m k) (E.fill k)
+pub twins_fill : (m : Message) (k : ℕ) → Twins m k (D.fill m k) (E.fill k)
 unfolding D.fill
-twins-fill m k = twins-zeros m k (D.fill m k) (λ at. fault fillNotZero (Byte (at + leading_zeros (part m.bytes at k)))) (λ at n u. refl)
+twins_fill m k = twins_zeros m k (D.fill m k) (λ at. fault fill_not_zero (Byte (at + leading_zeros (part m.bytes at k)))) (λ at n u. refl)

@@ -9,9 +9,9 @@ Octets [] = Unit {0}
 Octets (byte ∷ rest) = (byte < 256) × Octets rest
 
 -- "All numbers are little-endian": the number that bytes stand for,
-unfoldable pub littleEndian : List ℕ → ℕ
-littleEndian [] = 0
-littleEndian (byte ∷ rest) = byte + 256 * littleEndian rest
+unfoldable pub little_endian : List ℕ → ℕ
+little_endian [] = 0
+little_endian (byte ∷ rest) = byte + 256 * little_endian rest
 
 -- and the bytes of a number, so many of them.
 unfoldable pub bytes_of : (width value : ℕ) → List ℕ
@@ -23,7 +23,7 @@ unfoldable pub part : (bytes : List ℕ) (at count : ℕ) → List ℕ
 part bytes at count = take count (drop at bytes)
 
 unfoldable pub word : (bytes : List ℕ) (at width : ℕ) → ℕ
-word bytes at width = littleEndian (part bytes at width)
+word bytes at width = little_endian (part bytes at width)
 
 -- Words of all ones.
 abbrev pub ones32 : ℕ

@@ -2,11 +2,11 @@
 -- is computed: proofs/Cases.antt.
 use Rattle.std.specs.Prelude.{◌≡◌, List, [], ◌∷◌, ◌++◌, map, ℕ, zero, suc, ◌+◌, ◌-◌, ◌*◌, ◌/◌, negsuc, length, set, replicate, take}
 use Rattle.rules.specs.declared.Place.TheVariants.{Byte}
-use Rattle.rules.specs.Refusals.{fault, objectDoesNotFit, fillNotZero, bytesLeft, Answer, accepted, refused, number, place}
+use Rattle.rules.specs.Refusals.{fault, object_does_not_fit, fill_not_zero, bytes_left, Answer, accepted, refused, number, place}
 use Rattle.rules.specs.Bytes.{bytes_of}
-use Rattle.rules.specs.TypeTable.{TypeTable, typeTable}
-use Rattle.rules.specs.Answers.{check, readObjects, Lists, read, written}
-use Rattle.rules.specs.Header.{readHeader, epitaphBytes}
+use Rattle.rules.specs.TypeTable.{TypeTable, type_table}
+use Rattle.rules.specs.Answers.{check, read_objects, Lists, read, written}
+use Rattle.rules.specs.Header.{read_header, epitaph_bytes}
 
 -- A message under a table and root, and what the checker answers; or that it is accepted, so many objects in so many bytes;
 -- or what the reader hands back. A value list, and what the writer answers.
@@ -30,27 +30,27 @@ expected (writes t root values number place) = answer number place
 abbrev pub answered : {A : Type 0} → Answer A → Outcome
 answered a = answer (number a) (place a)
 
-abbrev pub acceptOutcome : (size : ℕ) → Answer (List ℕ) → Outcome
-acceptOutcome size (accepted objects) = holds (length objects / 4) size
-acceptOutcome size (refused f) = answered {A = List ℕ} (refused f)
+abbrev pub accept_outcome : (size : ℕ) → Answer (List ℕ) → Outcome
+accept_outcome size (accepted objects) = holds (length objects / 4) size
+accept_outcome size (refused f) = answered {A = List ℕ} (refused f)
 
-abbrev pub readOutcome : Answer Lists → Outcome
-readOutcome (accepted l) = lists l.values l.objects
-readOutcome (refused f) = answered {A = Lists} (refused f)
+abbrev pub read_outcome : Answer Lists → Outcome
+read_outcome (accepted l) = lists l.values l.objects
+read_outcome (refused f) = answered {A = Lists} (refused f)
 
 -- What the rules answer. A reader is lent just the room that the lists take.
 abbrev pub outcome : Case → Outcome
 outcome (checks t root bytes handles n p) = answered (check (record { table = t; bytes = bytes; handles = handles }) root)
 outcome (accepts t root bytes handles objects size) =
-    acceptOutcome (length bytes) (readObjects (record { table = t; bytes = bytes; handles = handles }) root (objects * 4))
+    accept_outcome (length bytes) (read_objects (record { table = t; bytes = bytes; handles = handles }) root (objects * 4))
 outcome (reads t root bytes handles values objects) =
-    readOutcome (read (record { table = t; bytes = bytes; handles = handles }) root (length values) (length objects))
+    read_outcome (read (record { table = t; bytes = bytes; handles = handles }) root (length values) (length objects))
 outcome (writes t root values n p) = answered (written t root values)
 
 -- "Rows: 0 `2,1,0,0`; 1 `2,2,0,0`; 2 `6,0,8,1`; 3 `7,0,2,0`; 4 `9,2,3,0`. Members: `1,1` `2,1` `1,0` `2,3` `3,2`. Root 4."
-abbrev pub padTable : TypeTable
-padTable =
-    typeTable
+abbrev pub pad_table : TypeTable
+pad_table =
+    type_table
     (2 ∷ 1 ∷ 0 ∷ 0 ∷ 2 ∷ 2 ∷ 0 ∷ 0 ∷ 6 ∷ 0 ∷ 8 ∷ 1 ∷ 7 ∷ 0 ∷ 2 ∷ 0 ∷ 9 ∷ 2 ∷ 3 ∷ 0 ∷ [])
     (1 ∷ 1 ∷ 2 ∷ 1 ∷ 1 ∷ 0 ∷ 2 ∷ 3 ∷ 3 ∷ 2 ∷ [])
     []
@@ -58,8 +58,8 @@ padTable =
 abbrev pub present : List ℕ
 present = replicate 8 0xFF
 
-abbrev pub eightZeros : List ℕ
-eightZeros = replicate 8 0
+abbrev pub eight_zeros : List ℕ
+eight_zeros = replicate 8 0
 
 -- The message of P1, and its two envelopes.
 abbrev pub p1 : List ℕ
@@ -71,51 +71,51 @@ p1 =
 
 -- "Count 0, presence all ones, 16 bytes".
 abbrev pub p4 : List ℕ
-p4 = eightZeros ++ present
+p4 = eight_zeros ++ present
 
 -- "Count 4, P1's envelopes, a zero one, `08 00 00 00 00 00 00 00`, eight bytes of content".
 abbrev pub p6 : List ℕ
-p6 = set p1 0 4 ++ (eightZeros ++ ((0x08 ∷ 0 ∷ 0 ∷ 0 ∷ 0 ∷ 0 ∷ 0 ∷ 0 ∷ []) ++ (1 ∷ 2 ∷ 3 ∷ 4 ∷ 5 ∷ 6 ∷ 7 ∷ 8 ∷ [])))
+p6 = set p1 0 4 ++ (eight_zeros ++ ((0x08 ∷ 0 ∷ 0 ∷ 0 ∷ 0 ∷ 0 ∷ 0 ∷ 0 ∷ []) ++ (1 ∷ 2 ∷ 3 ∷ 4 ∷ 5 ∷ 6 ∷ 7 ∷ 8 ∷ [])))
 
 -- "Rows `8,1,0,0` and `7,0,1,0`, member `1,0`, root 1": so many linked objects, a present box in each but the last.
-abbrev pub linkedTable : TypeTable
-linkedTable = typeTable (8 ∷ 1 ∷ 0 ∷ 0 ∷ 7 ∷ 0 ∷ 1 ∷ 0 ∷ []) (1 ∷ 0 ∷ []) []
+abbrev pub linked_table : TypeTable
+linked_table = type_table (8 ∷ 1 ∷ 0 ∷ 0 ∷ 7 ∷ 0 ∷ 1 ∷ 0 ∷ []) (1 ∷ 0 ∷ []) []
 
 abbrev pub linked : (objects : ℕ) → List ℕ
-linked objects = replicate ((objects - 1) * 8) 0xFF ++ eightZeros
+linked objects = replicate ((objects - 1) * 8) 0xFF ++ eight_zeros
 
 abbrev pub cases : List Case
 cases =
     -- P1
-    checks padTable 4 p1 0 0 0
-    ∷ reads padTable 4 p1 0 (2 ∷ 1 ∷ 2 ∷ 1 ∷ 100 ∷ 65533 ∷ []) (1 ∷ 4 ∷ 0 ∷ 16 ∷ 4 ∷ 4 ∷ 16 ∷ 16 ∷ [])
+    checks pad_table 4 p1 0 0 0
+    ∷ reads pad_table 4 p1 0 (2 ∷ 1 ∷ 2 ∷ 1 ∷ 100 ∷ 65533 ∷ []) (1 ∷ 4 ∷ 0 ∷ 16 ∷ 4 ∷ 4 ∷ 16 ∷ 16 ∷ [])
     -- P2: "P1, byte 17 set to 1: 7 at 17."
-    ∷ checks padTable 4 (set p1 17 1) 0 7 17
+    ∷ checks pad_table 4 (set p1 17 1) 0 7 17
     -- P3: "P1 with count 3 and eight zero bytes added: 19 at 32."
-    ∷ checks padTable 4 (set p1 0 3 ++ eightZeros) 0 19 32
+    ∷ checks pad_table 4 (set p1 0 3 ++ eight_zeros) 0 19 32
     -- P4: "16 bytes: value list 0; objects 1,4,0,16 and 4,4,16,0."
-    ∷ checks padTable 4 p4 0 0 0
-    ∷ accepts padTable 4 p4 0 2 16
-    ∷ reads padTable 4 p4 0 (0 ∷ []) (1 ∷ 4 ∷ 0 ∷ 16 ∷ 4 ∷ 4 ∷ 16 ∷ 0 ∷ [])
+    ∷ checks pad_table 4 p4 0 0 0
+    ∷ accepts pad_table 4 p4 0 2 16
+    ∷ reads pad_table 4 p4 0 (0 ∷ []) (1 ∷ 4 ∷ 0 ∷ 16 ∷ 4 ∷ 4 ∷ 16 ∷ 0 ∷ [])
     -- P5: "P4, presence 0: 10 at 0."
-    ∷ checks padTable 4 (eightZeros ++ eightZeros) 0 10 0
+    ∷ checks pad_table 4 (eight_zeros ++ eight_zeros) 0 10 0
     -- P6: "accepted, 56 bytes."
-    ∷ checks padTable 4 p6 0 0 0
-    ∷ accepts padTable 4 p6 0 3 56
+    ∷ checks pad_table 4 p6 0 0 0
+    ∷ accepts pad_table 4 p6 0 3 56
     -- P7: "P6, that 08 as 0C: 15 at 40."
-    ∷ checks padTable 4 (set p6 40 0x0C) 0 15 40
+    ∷ checks pad_table 4 (set p6 40 0x0C) 0 15 40
     -- P8: "P1 plus one byte: 20 at 32."
-    ∷ checks padTable 4 (p1 ++ (0 ∷ [])) 0 20 32
+    ∷ checks pad_table 4 (p1 ++ (0 ∷ [])) 0 20 32
     -- P9: "P1, one handle: 21 at 0."
-    ∷ checks padTable 4 p1 1 21 0
+    ∷ checks pad_table 4 p1 1 21 0
     -- P10: "No bytes: 6 at 0."
-    ∷ checks padTable 4 [] 0 6 0
+    ∷ checks pad_table 4 [] 0 6 0
     -- P11: "P1, byte 22 set to 0: 15 at 16."
-    ∷ checks padTable 4 (set p1 22 0) 0 15 16
+    ∷ checks pad_table 4 (set p1 22 0) 0 15 16
     -- P12: "33 linked objects in 264 bytes accepted, 34 refused 5 at 256."
-    ∷ checks linkedTable 1 (linked 33) 0 0 0
-    ∷ accepts linkedTable 1 (linked 33) 0 33 264
-    ∷ checks linkedTable 1 (linked 34) 0 5 256
+    ∷ checks linked_table 1 (linked 33) 0 0 0
+    ∷ accepts linked_table 1 (linked 33) 0 33 264
+    ∷ checks linked_table 1 (linked 34) 0 5 256
     ∷ []
 
 -- The one claim.
@@ -126,35 +126,35 @@ CasesHold = map outcome cases ≡ map expected cases
 
 -- Tables within tables: row 0 is a table whose one member is that table again. A table's pointer takes one level and its
 -- envelope another, so 16 tables are the most.
-abbrev pub nestedTable : TypeTable
-nestedTable = typeTable (9 ∷ 0 ∷ 1 ∷ 0 ∷ []) (1 ∷ 0 ∷ []) []
+abbrev pub nested_table : TypeTable
+nested_table = type_table (9 ∷ 0 ∷ 1 ∷ 0 ∷ []) (1 ∷ 0 ∷ []) []
 
 abbrev pub nested : (inner : ℕ) → List ℕ
-nested zero = eightZeros ++ present
+nested zero = eight_zeros ++ present
 nested (suc inner) = bytes_of 8 1 ++ (present ++ (bytes_of 8 (16 + inner * 24) ++ nested inner))
 
 -- A struct with an optional vector of bytes, as a root (2) and as a member of a table (3).
 abbrev pub vector_table : TypeTable
-vector_table = typeTable (2 ∷ 1 ∷ 0 ∷ 0 ∷ 5 ∷ 0 ∷ 10 ∷ 1 ∷ 7 ∷ 0 ∷ 1 ∷ 0 ∷ 9 ∷ 1 ∷ 1 ∷ 0 ∷ []) (1 ∷ 1 ∷ 1 ∷ 2 ∷ []) []
+vector_table = type_table (2 ∷ 1 ∷ 0 ∷ 0 ∷ 5 ∷ 0 ∷ 10 ∷ 1 ∷ 7 ∷ 0 ∷ 1 ∷ 0 ∷ 9 ∷ 1 ∷ 1 ∷ 0 ∷ []) (1 ∷ 1 ∷ 1 ∷ 2 ∷ []) []
 
-abbrev pub vectorMember : (byteNumber : ℕ) → List ℕ
-vectorMember byteNumber = bytes_of 8 1 ++ (present ++ (bytes_of 8 byteNumber ++ (bytes_of 8 1 ++ (present ++ bytes_of 8 7))))
+abbrev pub vector_member : (byte_number : ℕ) → List ℕ
+vector_member byte_number = bytes_of 8 1 ++ (present ++ (bytes_of 8 byte_number ++ (bytes_of 8 1 ++ (present ++ bytes_of 8 7))))
 
 abbrev pub slips : List Case
 slips =
     -- "Taking unknown content's bytes but not its handles."
-    checks padTable 4 (set p6 44 1) 1 0 0
-    ∷ checks padTable 4 (set p6 44 1) 0 14 40
+    checks pad_table 4 (set p6 44 1) 1 0 0
+    ∷ checks pad_table 4 (set p6 44 1) 0 14 40
     -- "Raising depth once for a table's pointer and its envelope together."
-    ∷ checks nestedTable 0 (nested 15) 0 0 0
-    ∷ checks nestedTable 0 (nested 16) 0 5 384
+    ∷ checks nested_table 0 (nested 15) 0 0 0
+    ∷ checks nested_table 0 (nested 16) 0 5 384
     -- "Accepting count 5 with an absent optional vector."
-    ∷ checks vector_table 2 (bytes_of 8 5 ++ eightZeros) 0 11 0
+    ∷ checks vector_table 2 (bytes_of 8 5 ++ eight_zeros) 0 11 0
     -- "Reading the byte number as the payload's own size, without what it refers to."
-    ∷ checks vector_table 3 (vectorMember 24) 0 0 0
-    ∷ checks vector_table 3 (vectorMember 16) 0 16 16
-    -- "Rounding in-line structs to 8": P1's second envelope holds a struct of 4 bytes in line.
-    ∷ checks padTable 4 p1 0 0 0
+    ∷ checks vector_table 3 (vector_member 24) 0 0 0
+    ∷ checks vector_table 3 (vector_member 16) 0 16 16
+    -- "Rounding in_line_lem structs to 8": P1's second envelope holds a struct of 4 bytes in line.
+    ∷ checks pad_table 4 p1 0 0 0
     ∷ []
 
 abbrev pub SlipsShow : Type 0
@@ -167,46 +167,46 @@ epitaph = (0 ∷ 0 ∷ 0 ∷ 0 ∷ 1 ∷ 2 ∷ 3 ∷ 1 ∷ []) ++ (present ++ (0
 
 abbrev pub EpitaphCasesHold : Type 0
 EpitaphCasesHold =
-    (epitaphBytes 1 2 3 (negsuc 1) ≡ epitaph)
+    (epitaph_bytes 1 2 3 (negsuc 1) ≡ epitaph)
     -- "6 at 16 if under 24 bytes, then 7 for bytes 20 to 23, at the first nonzero one, then 20 at 24".
-    × (readHeader (take 16 epitaph) ≡ refused (fault objectDoesNotFit (Byte 16)))
-    × (readHeader (set epitaph 21 5) ≡ refused (fault fillNotZero (Byte 21)))
-    × (readHeader (set epitaph 21 5 ++ (0 ∷ [])) ≡ refused (fault fillNotZero (Byte 21)))
-    × (readHeader (epitaph ++ (0 ∷ [])) ≡ refused (fault bytesLeft (Byte 24)))
+    × (read_header (take 16 epitaph) ≡ refused (fault object_does_not_fit (Byte 16)))
+    × (read_header (set epitaph 21 5) ≡ refused (fault fill_not_zero (Byte 21)))
+    × (read_header (set epitaph 21 5 ++ (0 ∷ [])) ≡ refused (fault fill_not_zero (Byte 21)))
+    × (read_header (epitaph ++ (0 ∷ [])) ≡ refused (fault bytes_left (Byte 24)))
 
 -- ---- cases of the change requests
 
 -- The envelope of unknown content in line.
-abbrev pub unknownHere : (handles : ℕ) → List ℕ
-unknownHere handles = bytes_of 4 0 ++ (bytes_of 2 handles ++ bytes_of 2 1)
+abbrev pub unknown_here : (handles : ℕ) → List ℕ
+unknown_here handles = bytes_of 4 0 ++ (bytes_of 2 handles ++ bytes_of 2 1)
 
 -- P6 with its fourth envelope in line.
-abbrev pub unknownFourth : (handles : ℕ) → List ℕ
-unknownFourth handles = set p1 0 4 ++ (eightZeros ++ unknownHere handles)
+abbrev pub unknown_fourth : (handles : ℕ) → List ℕ
+unknown_fourth handles = set p1 0 4 ++ (eight_zeros ++ unknown_here handles)
 
 -- Unions within unions: row 0 is a flexible union whose one member is that union again. The innermost one's ordinal is unknown.
-abbrev pub unionTable : TypeTable
-unionTable = typeTable (10 ∷ 0 ∷ 1 ∷ 2 ∷ []) (1 ∷ 0 ∷ []) []
+abbrev pub union_table : TypeTable
+union_table = type_table (10 ∷ 0 ∷ 1 ∷ 2 ∷ []) (1 ∷ 0 ∷ []) []
 
-abbrev pub unionsAround : (outer handles : ℕ) → List ℕ
-unionsAround zero handles = bytes_of 8 2 ++ unknownHere handles
-unionsAround (suc outer) handles = bytes_of 8 1 ++ (bytes_of 8 (16 + outer * 16) ++ unionsAround outer handles)
+abbrev pub unions_around : (outer handles : ℕ) → List ℕ
+unions_around zero handles = bytes_of 8 2 ++ unknown_here handles
+unions_around (suc outer) handles = bytes_of 8 1 ++ (bytes_of 8 (16 + outer * 16) ++ unions_around outer handles)
 
 -- A message of the pad's table with a string alone (row 2, ordinal 3), whose object stands at 56.
 abbrev pub named : (count : ℕ) (object : List ℕ) → List ℕ
 named count object =
-    bytes_of 8 3 ++ (present ++ (eightZeros ++ (eightZeros ++ (bytes_of 8 (16 + length object) ++ (bytes_of 8 count ++ (present ++ object))))))
+    bytes_of 8 3 ++ (present ++ (eight_zeros ++ (eight_zeros ++ (bytes_of 8 (16 + length object) ++ (bytes_of 8 count ++ (present ++ object))))))
 
 -- W-206: a struct (2) of a strict enum of a byte with 14 entries (0), and of strict bits of two bytes, whose mask comes after them (1).
-abbrev pub strictTable : (entries : List ℕ) → TypeTable
-strictTable entries = typeTable (11 ∷ 1 ∷ 0 ∷ 14 ∷ 12 ∷ 2 ∷ 14 ∷ 1 ∷ 7 ∷ 0 ∷ 2 ∷ 0 ∷ []) (1 ∷ 0 ∷ 2 ∷ 1 ∷ []) entries
+abbrev pub strict_table : (entries : List ℕ) → TypeTable
+strict_table entries = type_table (11 ∷ 1 ∷ 0 ∷ 14 ∷ 12 ∷ 2 ∷ 14 ∷ 1 ∷ 7 ∷ 0 ∷ 2 ∷ 0 ∷ []) (1 ∷ 0 ∷ 2 ∷ 1 ∷ []) entries
 
 -- Thirteen buttons, one more, and the mask.
 abbrev pub buttons : (last mask : ℕ) → List ℕ
 buttons last mask = 1 ∷ 2 ∷ 3 ∷ 4 ∷ 5 ∷ 6 ∷ 7 ∷ 8 ∷ 9 ∷ 10 ∷ 11 ∷ 12 ∷ 13 ∷ last ∷ mask ∷ []
 
 abbrev pub pad : TypeTable
-pad = strictTable (buttons 14 0x0103)
+pad = strict_table (buttons 14 0x0103)
 
 abbrev pub pressed : (button low high : ℕ) → List ℕ
 pressed button low high = button ∷ 0 ∷ low ∷ high ∷ 0 ∷ 0 ∷ 0 ∷ 0 ∷ []
@@ -214,37 +214,37 @@ pressed button low high = button ∷ 0 ∷ low ∷ high ∷ 0 ∷ 0 ∷ 0 ∷ 0 
 abbrev pub requests : List Case
 requests =
     -- W-208: "A wrong handle number is 28," in line
-    checks padTable 4 (set p1 20 1) 1 28 16
+    checks pad_table 4 (set p1 20 1) 1 28 16
     -- and out of line, "tested after 16 at the same envelope".
-    ∷ checks vector_table 3 (set (vectorMember 24) 20 1) 1 28 16
-    ∷ checks vector_table 3 (set (vectorMember 16) 20 1) 1 16 16
-    -- W-209: "An unknown in-line payload of four bytes claimed nine handles",
-    ∷ checks padTable 4 (unknownFourth 9) 9 35 40
+    ∷ checks vector_table 3 (set (vector_member 24) 20 1) 1 28 16
+    ∷ checks vector_table 3 (set (vector_member 16) 20 1) 1 16 16
+    -- W-209: "An unknown in_line_lem payload of four bytes claimed nine handles",
+    ∷ checks pad_table 4 (unknown_fourth 9) 9 35 40
     -- "at most one handle in line": two, and one;
-    ∷ checks padTable 4 (unknownFourth 2) 2 35 40
-    ∷ checks padTable 4 (unknownFourth 1) 1 0 0
+    ∷ checks pad_table 4 (unknown_fourth 2) 2 35 40
+    ∷ checks pad_table 4 (unknown_fourth 1) 1 0 0
     -- "at most a quarter of its byte number out of line": P6 with three, and two.
-    ∷ checks padTable 4 (set p6 44 3) 3 35 40
-    ∷ checks padTable 4 (set p6 44 2) 2 0 0
+    ∷ checks pad_table 4 (set p6 44 3) 3 35 40
+    ∷ checks pad_table 4 (set p6 44 2) 2 0 0
     -- "after 15 and before 5".
-    ∷ checks padTable 4 (set (set p6 40 0x0C) 44 4) 4 15 40
-    ∷ checks unionTable 0 (unionsAround 32 2) 2 35 520
-    ∷ checks unionTable 0 (unionsAround 32 1) 1 5 520
+    ∷ checks pad_table 4 (set (set p6 40 0x0C) 44 4) 4 15 40
+    ∷ checks union_table 0 (unions_around 32 2) 2 35 520
+    ∷ checks union_table 0 (unions_around 32 1) 1 5 520
     -- "The writer refuses such lists with 26."
-    ∷ writes padTable 4 (4 ∷ 0 ∷ 0 ∷ 0 ∷ 1 ∷ 0 ∷ 1 ∷ 7 ∷ []) 0 0
-    ∷ writes padTable 4 (4 ∷ 0 ∷ 0 ∷ 0 ∷ 1 ∷ 0 ∷ 2 ∷ 7 ∷ []) 26 6
-    ∷ writes padTable 4 (4 ∷ 0 ∷ 0 ∷ 0 ∷ 1 ∷ 8 ∷ 2 ∷ 7 ∷ []) 0 0
-    ∷ writes padTable 4 (4 ∷ 0 ∷ 0 ∷ 0 ∷ 1 ∷ 8 ∷ 3 ∷ 7 ∷ []) 26 6
+    ∷ writes pad_table 4 (4 ∷ 0 ∷ 0 ∷ 0 ∷ 1 ∷ 0 ∷ 1 ∷ 7 ∷ []) 0 0
+    ∷ writes pad_table 4 (4 ∷ 0 ∷ 0 ∷ 0 ∷ 1 ∷ 0 ∷ 2 ∷ 7 ∷ []) 26 6
+    ∷ writes pad_table 4 (4 ∷ 0 ∷ 0 ∷ 0 ∷ 1 ∷ 8 ∷ 2 ∷ 7 ∷ []) 0 0
+    ∷ writes pad_table 4 (4 ∷ 0 ∷ 0 ∷ 0 ∷ 1 ∷ 8 ∷ 3 ∷ 7 ∷ []) 26 6
     -- W-201: "the first byte of the first sequence that RFC 3629 doesn't allow": a lead byte before one that it does not ask for, a tail by
     -- itself,
-    ∷ checks padTable 4 (named 3 (0x41 ∷ 0xC3 ∷ 0x28 ∷ 0 ∷ 0 ∷ 0 ∷ 0 ∷ 0 ∷ [])) 0 13 57
-    ∷ checks padTable 4 (named 3 (0x41 ∷ 0x42 ∷ 0xBF ∷ 0 ∷ 0 ∷ 0 ∷ 0 ∷ 0 ∷ [])) 0 13 58
-    ∷ checks padTable 4 (named 3 (0x41 ∷ 0xC3 ∷ 0xA9 ∷ 0 ∷ 0 ∷ 0 ∷ 0 ∷ 0 ∷ [])) 0 0 0
+    ∷ checks pad_table 4 (named 3 (0x41 ∷ 0xC3 ∷ 0x28 ∷ 0 ∷ 0 ∷ 0 ∷ 0 ∷ 0 ∷ [])) 0 13 57
+    ∷ checks pad_table 4 (named 3 (0x41 ∷ 0x42 ∷ 0xBF ∷ 0 ∷ 0 ∷ 0 ∷ 0 ∷ 0 ∷ [])) 0 13 58
+    ∷ checks pad_table 4 (named 3 (0x41 ∷ 0xC3 ∷ 0xA9 ∷ 0 ∷ 0 ∷ 0 ∷ 0 ∷ 0 ∷ [])) 0 0 0
     -- and "a sequence cut off by the string's end".
-    ∷ checks padTable 4 (named 5 (0x41 ∷ 0xC3 ∷ 0xA9 ∷ 0xE2 ∷ 0x82 ∷ 0 ∷ 0 ∷ 0 ∷ [])) 0 13 59
+    ∷ checks pad_table 4 (named 5 (0x41 ∷ 0xC3 ∷ 0xA9 ∷ 0xE2 ∷ 0x82 ∷ 0 ∷ 0 ∷ 0 ∷ [])) 0 13 59
     -- "The number, its order and the writer's 26 stay": fill before text, 26 at the count.
-    ∷ checks padTable 4 (named 3 (0x41 ∷ 0xC3 ∷ 0x28 ∷ 0 ∷ 0 ∷ 0 ∷ 0 ∷ 1 ∷ [])) 0 7 63
-    ∷ writes padTable 4 (3 ∷ 0 ∷ 0 ∷ 1 ∷ 4 ∷ 0x41 ∷ 0xC3 ∷ 0x28 ∷ []) 26 4
+    ∷ checks pad_table 4 (named 3 (0x41 ∷ 0xC3 ∷ 0x28 ∷ 0 ∷ 0 ∷ 0 ∷ 0 ∷ 1 ∷ [])) 0 7 63
+    ∷ writes pad_table 4 (3 ∷ 0 ∷ 0 ∷ 1 ∷ 4 ∷ 0x41 ∷ 0xC3 ∷ 0x28 ∷ []) 26 4
     -- W-206: "A pad sent button 19 of 14": 29 "at the field"
     ∷ checks pad 2 (pressed 14 2 1) 0 0 0
     ∷ checks pad 2 (pressed 19 2 1) 0 29 0
@@ -254,16 +254,16 @@ requests =
     ∷ writes pad 2 (19 ∷ 0x0103 ∷ []) 26 0
     ∷ writes pad 2 (5 ∷ 0x0200 ∷ []) 26 1
     -- "a bad entry makes the row unsound": one that doesn't rise, is wider than its row, or doesn't exist
-    ∷ writes (strictTable (buttons 13 0x0103)) 2 [] 1 0
-    ∷ writes (strictTable (buttons 256 0x0103)) 2 [] 1 0
-    ∷ writes (strictTable (buttons 14 0x10000)) 2 [] 1 1
-    ∷ writes (strictTable (replicate 14 0)) 2 [] 1 0
-    ∷ writes (typeTable (12 ∷ 1 ∷ 0 ∷ 1 ∷ []) [] []) 0 [] 1 0
+    ∷ writes (strict_table (buttons 13 0x0103)) 2 [] 1 0
+    ∷ writes (strict_table (buttons 256 0x0103)) 2 [] 1 0
+    ∷ writes (strict_table (buttons 14 0x10000)) 2 [] 1 1
+    ∷ writes (strict_table (replicate 14 0)) 2 [] 1 0
+    ∷ writes (type_table (12 ∷ 1 ∷ 0 ∷ 1 ∷ []) [] []) 0 [] 1 0
     -- neither kind may be a root
     ∷ writes pad 0 [] 2 0
     ∷ writes pad 1 [] 2 1
     -- "at most 1,024"
-    ∷ writes (strictTable (replicate 1025 0)) 2 [] 1 256
+    ∷ writes (strict_table (replicate 1025 0)) 2 [] 1 256
     ∷ []
 
 abbrev pub RequestsHold : Type 0

@@ -3,10 +3,10 @@
 use Rattle.std.specs.Prelude.{Bool, true, false, not, List, [], ◌∷◌, ◌++◌, ℕ, zero, suc, ◌+◌, ◌-◌, ◌*◌, leb, eqb, length}
 use Rattle.rules.specs.declared.Place.TheVariants.{Byte}
 use Rattle.rules.specs.declared.Fault.{Fault}
-use Rattle.rules.specs.Refusals.{if◌then◌else◌, fault, tooDeep, objectDoesNotFit, fillNotZero, absentNotZero, tooFewHandles, presentEnvelopeZero, lastEnvelopeZero}
+use Rattle.rules.specs.Refusals.{if◌then◌else◌, fault, too_deep, object_does_not_fit, fill_not_zero, absent_not_zero, too_few_handles, present_envelope_zero, last_envelope_zero}
 use Rattle.rules.specs.Bytes.{part, leading_zeros, padded}
 use Rattle.rules.specs.TypeTable.{TypeTable}
-use Rattle.rules.specs.Trace.{Event, claimed, handlesOf}
+use Rattle.rules.specs.Trace.{Event, claimed, handles_of}
 
 -- What is walked: a message's bytes and its handle count, under a type table.
 pub record Message : Type 0 where
@@ -24,9 +24,9 @@ abbrev pub values_of : Decoded → List ℕ
 values_of (went next used values trace) = values
 values_of (stopped f values trace) = values
 
-abbrev pub traceOf : Decoded → List Event
-traceOf (went next used values trace) = trace
-traceOf (stopped f values trace) = trace
+abbrev pub trace_of : Decoded → List Event
+trace_of (went next used values trace) = trace
+trace_of (stopped f values trace) = trace
 
 -- A part of the walk: what it decodes stands in line at a place; objects are claimed from the next free place on.
 abbrev pub Decoder : Type 0
@@ -49,10 +49,10 @@ require true f result = result
 require false f result = stopped f [] []
 
 -- and one after it, of what it came to.
-abbrev pub requireAfter : ((next used : ℕ) (values : List ℕ) → Bool) → Fault → Decoded → Decoded
-requireAfter holds f (went next used values trace) =
+abbrev pub require_after : ((next used : ℕ) (values : List ℕ) → Bool) → Fault → Decoded → Decoded
+require_after holds f (went next used values trace) =
     if holds next used values then went next used values trace else stopped f values trace
-requireAfter holds f (stopped g values trace) = stopped g values trace
+require_after holds f (stopped g values trace) = stopped g values trace
 
 -- ---- parts in turn
 
@@ -85,18 +85,18 @@ pub data ReadRecord : Type 0 where
   got : (value : ℕ) → ReadRecord
   wrong : Fault → ReadRecord
 
-abbrev pub recordGoes : ReadRecord → (ℕ → Decoded) → Decoded
-recordGoes (got v) k = after (v ∷ []) [] (k v)
-recordGoes (wrong f) k = stopped f [] []
+abbrev pub record_goes : ReadRecord → (ℕ → Decoded) → Decoded
+record_goes (got v) k = after (v ∷ []) [] (k v)
+record_goes (wrong f) k = stopped f [] []
 
 -- A record, then what its value leads to, given the record's place.
-unfoldable pub recordThen : (size : ℕ) → (read : ℕ → ReadRecord) → ((record-at value : ℕ) → Decoder) → Decoder
-recordThen size read continue at next used = recordGoes (read at) (λ v. continue at v (at + size) next used)
+unfoldable pub record_then : (size : ℕ) → (read : ℕ → ReadRecord) → ((record-at value : ℕ) → Decoder) → Decoder
+record_then size read continue at next used = record_goes (read at) (λ v. continue at v (at + size) next used)
 
 -- A test of the values that a part gave, after it. Its refusal may name a place among them.
 unfoldable pub checked : (List ℕ → Bool) → ((at : ℕ) (values : List ℕ) → Fault) → Decoder → Decoder
 checked holds f part at next used =
-    requireAfter (λ n u values. holds values) (f at (values_of (part at next used))) (part at next used)
+    require_after (λ n u values. holds values) (f at (values_of (part at next used))) (part at next used)
 
 -- ---- depth
 
@@ -106,9 +106,9 @@ pub data Deeper : Type 0 where
   deeper : (rows : ℕ → Decoder) → Deeper → Deeper
 
 -- 5: at the record or envelope that would go deeper.
-abbrev pub oneDeeper : Deeper → (record-at : ℕ) → ((rows : ℕ → Decoder) → Deeper → Decoder) → Decoder
-oneDeeper spent record-at k = refuse (fault tooDeep (Byte record-at))
-oneDeeper (deeper rows below) record-at k = k rows below
+abbrev pub one_deeper : Deeper → (record-at : ℕ) → ((rows : ℕ → Decoder) → Deeper → Decoder) → Decoder
+one_deeper spent record-at k = refuse (fault too_deep (Byte record-at))
+one_deeper (deeper rows below) record-at k = k rows below
 
 -- ---- the message
 
@@ -117,51 +117,51 @@ module _ (m : Message) where
   is_zero at count = eqb (leading_zeros (part m.bytes at count)) count
 
   -- 7: at the first byte of the fill that is not zero.
-  abbrev pub requireZero : (at count : ℕ) → Decoded → Decoded
-  requireZero at count result = require (is_zero at count) (fault fillNotZero (Byte (at + leading_zeros (part m.bytes at count)))) result
+  abbrev pub require_zero : (at count : ℕ) → Decoded → Decoded
+  require_zero at count result = require (is_zero at count) (fault fill_not_zero (Byte (at + leading_zeros (part m.bytes at count)))) result
 
   unfoldable pub fill : (count : ℕ) → Decoder
-  fill count at next used = requireZero at count (went next used [] [])
+  fill count at next used = require_zero at count (went next used [] [])
 
   -- "Claiming an object tests first that it and its fill up to eight lie in the message (6), then the fill (7). Then its
   -- fields go in order."
   unfoldable pub claim : (kind row size : ℕ) → Decoder → Decoder
   claim kind row size fields at next used =
       let walked = after [] (claimed kind row next size ∷ []) (fields next (next + padded size) used) in
-      let filled = requireZero (next + size) (padded size - size) walked in
-      require (leb (next + padded size) (length m.bytes)) (fault objectDoesNotFit (Byte next)) filled
+      let filled = require_zero (next + size) (padded size - size) walked in
+      require (leb (next + padded size) (length m.bytes)) (fault object_does_not_fit (Byte next)) filled
 
   -- 14: at the handle's word or at the envelope; an event that takes handles.
-  unfoldable pub takeHandles : (word_at : ℕ) → Event → Decoder
-  takeHandles word_at event at next used =
-      require (leb (used + handlesOf event) m.handles) (fault tooFewHandles (Byte word_at)) (went next (used + handlesOf event) [] (event ∷ []))
+  unfoldable pub take_handles : (word_at : ℕ) → Event → Decoder
+  take_handles word_at event at next used =
+      require (leb (used + handles_of event) m.handles) (fault too_few_handles (Byte word_at)) (went next (used + handles_of event) [] (event ∷ []))
 
   -- ---- envelopes of any edition, `size` bytes each
 
   -- 19: a table's last envelope is present; at that envelope.
-  abbrev pub requireLast : (present : Bool) (at : ℕ) → Decoded → Decoded
-  requireLast present at result = require present (fault lastEnvelopeZero (Byte at)) result
+  abbrev pub require_last : (present : Bool) (at : ℕ) → Decoded → Decoded
+  require_last present at result = require present (fault last_envelope_zero (Byte at)) result
 
   -- An envelope in a table: absent, which the last may not be, or its content.
-  unfoldable pub optionalEnvelope : (size : ℕ) → (last : Bool) → Decoder → Decoder
-  optionalEnvelope size last content at next used =
+  unfoldable pub optional_envelope : (size : ℕ) → (last : Bool) → Decoder → Decoder
+  optional_envelope size last content at next used =
       let present = after (1 ∷ []) [] (content at next used) in
-      let absent = requireLast (not last) at (went next used (0 ∷ []) []) in
+      let absent = require_last (not last) at (went next used (0 ∷ []) []) in
       if is_zero at size then absent else present
 
   -- The last of a table's `count` envelopes is judged before any of them is walked.
-  unfoldable pub lastPresent : (size count : ℕ) → Decoder → Decoder
-  lastPresent size zero envelopes at next used = envelopes at next used
-  lastPresent size (suc count) envelopes at next used =
+  unfoldable pub last_present : (size count : ℕ) → Decoder → Decoder
+  last_present size zero envelopes at next used = envelopes at next used
+  last_present size (suc count) envelopes at next used =
       let walked = envelopes at next used in
-      requireLast (not (is_zero (at + count * size) size)) (at + count * size) walked
+      require_last (not (is_zero (at + count * size) size)) (at + count * size) walked
 
   -- 11: the envelope of a union without a member is all zero; at the union.
-  unfoldable pub zeroEnvelope : (size union-at : ℕ) → Decoder
-  zeroEnvelope size union-at at next used = require (is_zero at size) (fault absentNotZero (Byte union-at)) (went next used [] [])
+  unfoldable pub zero_envelope : (size union-at : ℕ) → Decoder
+  zero_envelope size union-at at next used = require (is_zero at size) (fault absent_not_zero (Byte union-at)) (went next used [] [])
 
   -- 18: the envelope of a union with a member is not zero; at the envelope.
-  unfoldable pub presentEnvelope : (size : ℕ) → Decoder → Decoder
-  presentEnvelope size content at next used =
+  unfoldable pub present_envelope : (size : ℕ) → Decoder → Decoder
+  present_envelope size content at next used =
       let walked = content at next used in
-      require (not (is_zero at size)) (fault presentEnvelopeZero (Byte at)) walked
+      require (not (is_zero at size)) (fault present_envelope_zero (Byte at)) walked

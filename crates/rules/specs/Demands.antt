@@ -5,10 +5,10 @@ use Rattle.std.specs.Prelude.{◌≡◌, ◌↔◌, List, ℕ, ◌+◌, ◌≤�
 use Rattle.rules.specs.Refusals.{accepted}
 use Rattle.rules.specs.Bytes.{Octets}
 use Rattle.rules.specs.TypeTable.{TypeTable}
-use Rattle.rules.specs.Trace.{Event, objectList, presentHandles, unknownHandles, unknownOutOfLine, Tiles, FillsAreZero, unknownLengths, PresentHandlesAreOnes}
+use Rattle.rules.specs.Trace.{Event, object_list, present_handles, unknown_handles, unknown_out_of_line, Tiles, FillsAreZero, unknown_lengths, PresentHandlesAreOnes}
 use Rattle.rules.specs.Envelope.{UnknownClaimsFit}
-use Rattle.rules.specs.Decode.{Message, traceOf}
-use Rattle.rules.specs.Answers.{walk, check, readValues, readObjects, read, write}
+use Rattle.rules.specs.Decode.{Message, trace_of}
+use Rattle.rules.specs.Answers.{walk, check, read_values, read_objects, read, write}
 
 module _ (t : TypeTable) (root : ℕ) where
   abbrev pub message : (bytes : List ℕ) (handles : ℕ) → Message
@@ -20,17 +20,17 @@ module _ (t : TypeTable) (root : ℕ) where
 
   -- "Its value is its value list", which is handed back given room,
   abbrev pub HasValue : (bytes : List ℕ) (handles : ℕ) (values : List ℕ) → Type 0
-  HasValue bytes handles values = (room : ℕ) → length values ≤ room → readValues (message bytes handles) root room ≡ accepted values
+  HasValue bytes handles values = (room : ℕ) → length values ≤ room → read_values (message bytes handles) root room ≡ accepted values
 
   -- and so is its object list.
   abbrev pub HasObjects : (bytes : List ℕ) (handles : ℕ) (objects : List ℕ) → Type 0
-  HasObjects bytes handles objects = (room : ℕ) → length objects ≤ room → readObjects (message bytes handles) root room ≡ accepted objects
+  HasObjects bytes handles objects = (room : ℕ) → length objects ≤ room → read_objects (message bytes handles) root room ≡ accepted objects
 
   -- Where both lists are lent, both are handed back.
   abbrev pub HasBoth : (bytes : List ℕ) (handles : ℕ) (values objects : List ℕ) → Type 0
   HasBoth bytes handles values objects =
-      (values-room objects-room : ℕ) → length values ≤ values-room → length objects ≤ objects-room
-      → read (message bytes handles) root values-room objects-room ≡ accepted (record { values = values; objects = objects })
+      (values_room objects_room : ℕ) → length values ≤ values_room → length objects ≤ objects_room
+      → read (message bytes handles) root values_room objects_room ≡ accepted (record { values = values; objects = objects })
 
   -- A value list is written to a message with its handle count, given room.
   abbrev pub IsWrittenTo : (values bytes : List ℕ) (handles : ℕ) → Type 0
@@ -39,37 +39,37 @@ module _ (t : TypeTable) (root : ℕ) where
   -- Demand 2: "For a sound table and an allowed root, a message with its handle count is accepted exactly when it encodes a
   -- value of that root within the limits; reading gives that value, writing a value gives its message."
   pub record Demand2 : Type 0 where
-    pub acceptedExactlyWhenEncoded : (bytes : List ℕ) (handles : ℕ) → Octets bytes → Accepted bytes handles ↔ ((values : List ℕ) × IsWrittenTo values bytes handles)
-    pub readingGivesTheValue : (bytes : List ℕ) (handles : ℕ) (values : List ℕ) → IsWrittenTo values bytes handles
+    pub accepted_exactly_when_encoded : (bytes : List ℕ) (handles : ℕ) → Octets bytes → Accepted bytes handles ↔ ((values : List ℕ) × IsWrittenTo values bytes handles)
+    pub reading_gives_the_value : (bytes : List ℕ) (handles : ℕ) (values : List ℕ) → IsWrittenTo values bytes handles
         → HasValue bytes handles values × ((objects : List ℕ) × HasBoth bytes handles values objects)
-    pub writingGivesTheMessage : (bytes : List ℕ) (handles : ℕ) (values : List ℕ) → Octets bytes → HasValue bytes handles values → IsWrittenTo values bytes handles
+    pub writing_gives_the_message : (bytes : List ℕ) (handles : ℕ) (values : List ℕ) → Octets bytes → HasValue bytes handles values → IsWrittenTo values bytes handles
 
   -- What an accepted message with its handle count says of itself. `trace` is what its walk met.
   pub record Canonical (bytes : List ℕ) (handles : ℕ) : Type 0 where
     pub values : List ℕ
     pub objects : List ℕ
     pub trace : List Event
-    pub traceIsTheWalks : trace ≡ traceOf (walk (message bytes handles) root)
+    pub trace_is_the_walks : trace ≡ trace_of (walk (message bytes handles) root)
     pub has_value : HasValue bytes handles values
-    pub hasObjects : HasObjects bytes handles objects
-    pub hasBoth : HasBoth bytes handles values objects
+    pub has_objects : HasObjects bytes handles objects
+    pub has_both : HasBoth bytes handles values objects
     -- "writing what was read gives back the same bytes and handle count"
-    pub roundTrip : IsWrittenTo values bytes handles
-    -- "Its object list has one object for each claim of the walk, unknown out-of-line content included, and no other"
-    pub objectsAreClaims : objects ≡ objectList trace
-    pub unknownContentIsAnObject : unknownLengths objects ≡ unknownOutOfLine trace
+    pub round_trip : IsWrittenTo values bytes handles
+    -- "Its object list has one object for each claim of the walk, unknown out_of_line_lem content included, and no other"
+    pub objects_are_claims : objects ≡ object_list trace
+    pub unknown_content_is_an_object : unknown_lengths objects ≡ unknown_out_of_line trace
     -- The object list "takes every byte once": as object, or as zero fill after one.
-    pub objectsTile : Tiles 0 (length bytes) objects
-    pub fillsAreZero : FillsAreZero bytes objects
+    pub objects_tile : Tiles 0 (length bytes) objects
+    pub fills_are_zero : FillsAreZero bytes objects
     -- "the handle count is the present handles plus the handle numbers of unknown content"
-    pub handlesAddUp : handles ≡ presentHandles trace + unknownHandles trace
+    pub handles_add_up : handles ≡ present_handles trace + unknown_handles trace
     -- "A present handle is a handle's word of all ones met in the walk"
-    pub presentHandlesAreOnes : PresentHandlesAreOnes bytes trace
+    pub present_handles_are_ones : PresentHandlesAreOnes bytes trace
     -- W-209: "an unknown payload may claim at most one handle in line, and at most a quarter of its byte number out of line"
-    pub unknownClaimsFit : UnknownClaimsFit trace
+    pub unknown_claims_fit : UnknownClaimsFit trace
 
   -- Demand 3: "two accepted messages hold equal values exactly when bytes and handle counts are equal", and the above.
   pub record Demand3 : Type 0 where
-    pub equalValuesExactlyWhenEqual : (bytes bytes₂ : List ℕ) (handles handles₂ : ℕ) (values values₂ : List ℕ) → Octets bytes → Octets bytes₂
+    pub equal_values_exactly_when_equal : (bytes bytes₂ : List ℕ) (handles handles₂ : ℕ) (values values₂ : List ℕ) → Octets bytes → Octets bytes₂
         → HasValue bytes handles values → HasValue bytes₂ handles₂ values₂ → (values ≡ values₂) ↔ ((bytes ≡ bytes₂) × (handles ≡ handles₂))
     pub canonical : (bytes : List ℕ) (handles : ℕ) → Octets bytes → Accepted bytes handles → Canonical bytes handles

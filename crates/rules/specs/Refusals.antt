@@ -13,124 +13,124 @@ if false then a else b = b
 -- ---- the numbers
 
 -- the type table is not sound
-abbrev pub tableNotSound : ℕ
-tableNotSound = 1
+abbrev pub table_not_sound : ℕ
+table_not_sound = 1
 
 -- the root is not allowed; for the layout calculator, the row does not exist
-abbrev pub rootNotAllowed : ℕ
-rootNotAllowed = 2
+abbrev pub root_not_allowed : ℕ
+root_not_allowed = 2
 
 -- over 65,536 bytes
-abbrev pub messageTooLong : ℕ
-messageTooLong = 3
+abbrev pub message_too_long : ℕ
+message_too_long = 3
 
 -- over 64 handles
-abbrev pub tooManyHandles : ℕ
-tooManyHandles = 4
+abbrev pub too_many_handles : ℕ
+too_many_handles = 4
 
 -- the depth would be over 32
-abbrev pub tooDeep : ℕ
-tooDeep = 5
+abbrev pub too_deep : ℕ
+too_deep = 5
 
 -- an object, or the header, does not fit
-abbrev pub objectDoesNotFit : ℕ
-objectDoesNotFit = 6
+abbrev pub object_does_not_fit : ℕ
+object_does_not_fit = 6
 
 -- fill is not zero
-abbrev pub fillNotZero : ℕ
-fillNotZero = 7
+abbrev pub fill_not_zero : ℕ
+fill_not_zero = 7
 
 -- a bool is neither 0 nor 1
-abbrev pub boolNotZeroOrOne : ℕ
-boolNotZeroOrOne = 8
+abbrev pub bool_not_zero_or_one : ℕ
+bool_not_zero_or_one = 8
 
 -- a presence is neither 0 nor all ones
-abbrev pub presenceWrong : ℕ
-presenceWrong = 9
+abbrev pub presence_wrong : ℕ
+presence_wrong = 9
 
 -- something required is absent
-abbrev pub requiredAbsent : ℕ
-requiredAbsent = 10
+abbrev pub required_absent : ℕ
+required_absent = 10
 
 -- absent, but its count or its envelope is not zero
-abbrev pub absentNotZero : ℕ
-absentNotZero = 11
+abbrev pub absent_not_zero : ℕ
+absent_not_zero = 11
 
 -- a count is over the largest
-abbrev pub countOverLargest : ℕ
-countOverLargest = 12
+abbrev pub count_over_largest : ℕ
+count_over_largest = 12
 
 -- a string is not UTF-8
-abbrev pub textNotUtf8 : ℕ
-textNotUtf8 = 13
+abbrev pub text_not_utf8 : ℕ
+text_not_utf8 = 13
 
 -- too few handles are left
-abbrev pub tooFewHandles : ℕ
-tooFewHandles = 14
+abbrev pub too_few_handles : ℕ
+too_few_handles = 14
 
 -- an envelope's flags or its size form are wrong
-abbrev pub envelopeFormWrong : ℕ
-envelopeFormWrong = 15
+abbrev pub envelope_form_wrong : ℕ
+envelope_form_wrong = 15
 
 -- an envelope's byte number is wrong
-abbrev pub byteNumberWrong : ℕ
-byteNumberWrong = 16
+abbrev pub byte_number_wrong : ℕ
+byte_number_wrong = 16
 
 -- an ordinal that a strict union does not know
-abbrev pub ordinalUnknown : ℕ
-ordinalUnknown = 17
+abbrev pub ordinal_unknown : ℕ
+ordinal_unknown = 17
 
 -- a union's ordinal is not 0, but its envelope is zero
-abbrev pub presentEnvelopeZero : ℕ
-presentEnvelopeZero = 18
+abbrev pub present_envelope_zero : ℕ
+present_envelope_zero = 18
 
 -- a table's last envelope is zero
-abbrev pub lastEnvelopeZero : ℕ
-lastEnvelopeZero = 19
+abbrev pub last_envelope_zero : ℕ
+last_envelope_zero = 19
 
 -- bytes are left
-abbrev pub bytesLeft : ℕ
-bytesLeft = 20
+abbrev pub bytes_left : ℕ
+bytes_left = 20
 
 -- handles are left
-abbrev pub handlesLeft : ℕ
-handlesLeft = 21
+abbrev pub handles_left : ℕ
+handles_left = 21
 
 -- the room is too small
-abbrev pub roomTooSmall : ℕ
-roomTooSmall = 22
+abbrev pub room_too_small : ℕ
+room_too_small = 22
 
 -- the header's magic byte is not 1
-abbrev pub magicWrong : ℕ
-magicWrong = 23
+abbrev pub magic_wrong : ℕ
+magic_wrong = 23
 
 -- the header's ordinal is 0
-abbrev pub ordinalZero : ℕ
-ordinalZero = 24
+abbrev pub ordinal_zero : ℕ
+ordinal_zero = 24
 
 -- an epitaph's transaction number is not 0
-abbrev pub epitaphTransaction : ℕ
-epitaphTransaction = 25
+abbrev pub epitaph_transaction : ℕ
+epitaph_transaction = 25
 
 -- the list is not a value
-abbrev pub notAValue : ℕ
-notAValue = 26
+abbrev pub not_aValue : ℕ
+not_aValue = 26
 
 -- an envelope's handle number is wrong
-abbrev pub handleNumberWrong : ℕ
-handleNumberWrong = 28
+abbrev pub handle_number_wrong : ℕ
+handle_number_wrong = 28
 
 -- a strict enum's value is not among its entries, or strict bits have one outside their mask
-abbrev pub strictValueUnknown : ℕ
-strictValueUnknown = 29
+abbrev pub strict_value_unknown : ℕ
+strict_value_unknown = 29
 
 -- a prepared state does not agree with its lists
-abbrev pub stateDisagrees : ℕ
-stateDisagrees = 34
+abbrev pub state_disagrees : ℕ
+state_disagrees = 34
 
 -- unknown content claims more handles than its payload has room for
-abbrev pub handlesImpossible : ℕ
-handlesImpossible = 35
+abbrev pub handles_impossible : ℕ
+handles_impossible = 35
 
 -- ---- answers
 
@@ -138,11 +138,11 @@ abbrev pub fault : ℕ → Place → Fault
 fault number place = record { number = number; place = place }
 
 -- The place as document 01 answers it: a plain number.
-abbrev pub placeNumber : Place → ℕ
-placeNumber (Row row) = row
-placeNumber (Byte offset) = offset
-placeNumber (Index index) = index
-placeNumber (Amount amount) = amount
+abbrev pub place_number : Place → ℕ
+place_number (Row row) = row
+place_number (Byte offset) = offset
+place_number (Index index) = index
+place_number (Amount amount) = amount
 
 -- What an operation answers: its result, or a refusal.
 pub data Answer (A : Type 0) : Type 0 where
@@ -156,7 +156,7 @@ number (refused f) = f.number
 
 abbrev pub place : {A : Type 0} → Answer A → ℕ
 place (accepted a) = 0
-place (refused f) = placeNumber f.place
+place (refused f) = place_number f.place
 
 -- The first failed test decides.
 abbrev pub require : {A : Type 0} → Bool → Fault → Answer A → Answer A
@@ -168,6 +168,6 @@ and_then (accepted a) k = k a
 and_then (refused f) k = refused f
 
 -- A lent list after the operation. "Past a written message or list all keeps what it held"; a refusal changes nothing.
-abbrev pub lentAfter : Answer (List ℕ) → List ℕ → List ℕ
-lentAfter (accepted xs) lent = xs ++ drop (length xs) lent
-lentAfter (refused f) lent = lent
+abbrev pub lent_after : Answer (List ℕ) → List ℕ → List ℕ
+lent_after (accepted xs) lent = xs ++ drop (length xs) lent
+lent_after (refused f) lent = lent

@@ -35,10 +35,10 @@ forms =
 -- What must come after a lead byte; no two forms share one.
 pub data Led : Type 0 where
   led : (after : List Range) → Led
-  notALead : Led
+  not_a_lead : Led
 
 abbrev pub leads : List Form → ℕ → Led
-leads [] byte = notALead
+leads [] byte = not_a_lead
 leads (form lead after ∷ rest) byte = if holds lead byte then led after else leads rest byte
 
 -- What bytes are: text; or not, and then where the first sequence starts that is not allowed.
@@ -49,36 +49,36 @@ pub data Text : Type 0 where
 -- UTF8-octets = *( UTF8-char ): the bytes come in turn, the next one at offset `at`; `due` are the ranges that the sequence
 -- begun at `start` still asks for, one a byte. W-201: "a sequence cut off by the string's end starts at its lead byte".
 unfoldable pub follows : (bytes : List ℕ) (start at : ℕ) (due : Led) → Text
-follows [] start at notALead = broken start
+follows [] start at not_a_lead = broken start
 follows [] start at (led []) = text
 follows [] start at (led (r ∷ due)) = broken start
-follows (byte ∷ bytes) start at notALead = broken start
+follows (byte ∷ bytes) start at not_a_lead = broken start
 follows (byte ∷ bytes) start at (led []) = follows bytes at (suc at) (leads forms byte)
 follows (byte ∷ bytes) start at (led (r ∷ due)) = if holds r byte then follows bytes start (suc at) (led due) else broken start
 
 abbrev pub utf8 : List ℕ → Text
 utf8 bytes = follows bytes 0 0 (led [])
 
-abbrev pub isText : Text → Bool
-isText text = true
-isText (broken start) = false
+abbrev pub is_text : Text → Bool
+is_text text = true
+is_text (broken start) = false
 
 abbrev pub start_of : Text → ℕ
 start_of text = 0
 start_of (broken start) = start
 
-unfoldable pub isUtf8 : List ℕ → Bool
-isUtf8 bytes = isText (utf8 bytes)
+unfoldable pub is_utf8 : List ℕ → Bool
+is_utf8 bytes = is_text (utf8 bytes)
 
 -- W-201: "the offset of the first byte of the first sequence that RFC 3629 doesn't allow"; 0 in text.
-unfoldable pub brokenAt : List ℕ → ℕ
-brokenAt bytes = start_of (utf8 bytes)
+unfoldable pub broken_at : List ℕ → ℕ
+broken_at bytes = start_of (utf8 bytes)
 
 -- Bytes that are not text: that offset lies in them, what stands before it is text, and with any byte more it is none.
 pub record BreaksThere (bytes : List ℕ) : Type 0 where
-  pub inside : brokenAt bytes < length bytes
-  pub before : isUtf8 (take (brokenAt bytes) bytes) ≡ true
-  pub beyond : (count : ℕ) → brokenAt bytes < count → isUtf8 (take count bytes) ≡ false
+  pub inside : broken_at bytes < length bytes
+  pub before : is_utf8 (take (broken_at bytes) bytes) ≡ true
+  pub beyond : (count : ℕ) → broken_at bytes < count → is_utf8 (take count bytes) ≡ false
 
 abbrev pub TextBreaksThere : Type 0
-TextBreaksThere = (bytes : List ℕ) → isUtf8 bytes ≡ false → BreaksThere bytes
+TextBreaksThere = (bytes : List ℕ) → is_utf8 bytes ≡ false → BreaksThere bytes

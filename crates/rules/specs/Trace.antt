@@ -8,62 +8,62 @@ pub data Event : Type 0 where
   -- an object was claimed: its kind, row, offset and length without fill
   claimed : (kind row offset length : ℕ) → Event
   -- a handle's word of all ones, at its place
-  presentHandle : (at : ℕ) → Event
+  present_handle : (at : ℕ) → Event
   -- content of an unknown ordinal: its byte number (0 in line) and its handle number
-  unknownContent : (bytes handles : ℕ) → Event
+  unknown_content : (bytes handles : ℕ) → Event
 
--- Kinds of objects: primary; vector or string content; boxed struct; envelopes of a table; out-of-line payload; unknown
--- out-of-line content.
-abbrev pub primaryObject : ℕ
-primaryObject = 1
+-- Kinds of objects: primary; vector or string content; boxed struct; envelopes of a table; out_of_line_lem payload; unknown
+-- out_of_line_lem content.
+abbrev pub primary_object : ℕ
+primary_object = 1
 
-abbrev pub vectorObject : ℕ
-vectorObject = 2
+abbrev pub vector_object : ℕ
+vector_object = 2
 
-abbrev pub boxedObject : ℕ
-boxedObject = 3
+abbrev pub boxed_object : ℕ
+boxed_object = 3
 
-abbrev pub envelopesObject : ℕ
-envelopesObject = 4
+abbrev pub envelopes_object : ℕ
+envelopes_object = 4
 
-abbrev pub payloadObject : ℕ
-payloadObject = 5
+abbrev pub payload_object : ℕ
+payload_object = 5
 
-abbrev pub unknownObject : ℕ
-unknownObject = 6
+abbrev pub unknown_object : ℕ
+unknown_object = 6
 
 -- "An object is four numbers: kind, row, offset, length without fill", one object for each claim and no other.
-unfoldable pub objectList : List Event → List ℕ
-objectList [] = []
-objectList (claimed kind row offset length ∷ trace) = kind ∷ row ∷ offset ∷ length ∷ objectList trace
-objectList (presentHandle at ∷ trace) = objectList trace
-objectList (unknownContent bytes handles ∷ trace) = objectList trace
+unfoldable pub object_list : List Event → List ℕ
+object_list [] = []
+object_list (claimed kind row offset length ∷ trace) = kind ∷ row ∷ offset ∷ length ∷ object_list trace
+object_list (present_handle at ∷ trace) = object_list trace
+object_list (unknown_content bytes handles ∷ trace) = object_list trace
 
 -- How many handles an event takes.
-abbrev pub handlesOf : Event → ℕ
-handlesOf (claimed kind row offset length) = 0
-handlesOf (presentHandle at) = 1
-handlesOf (unknownContent bytes handles) = handles
+abbrev pub handles_of : Event → ℕ
+handles_of (claimed kind row offset length) = 0
+handles_of (present_handle at) = 1
+handles_of (unknown_content bytes handles) = handles
 
-unfoldable pub presentHandles : List Event → ℕ
-presentHandles [] = 0
-presentHandles (claimed kind row offset length ∷ trace) = presentHandles trace
-presentHandles (presentHandle at ∷ trace) = suc (presentHandles trace)
-presentHandles (unknownContent bytes handles ∷ trace) = presentHandles trace
+unfoldable pub present_handles : List Event → ℕ
+present_handles [] = 0
+present_handles (claimed kind row offset length ∷ trace) = present_handles trace
+present_handles (present_handle at ∷ trace) = suc (present_handles trace)
+present_handles (unknown_content bytes handles ∷ trace) = present_handles trace
 
-unfoldable pub unknownHandles : List Event → ℕ
-unknownHandles [] = 0
-unknownHandles (claimed kind row offset length ∷ trace) = unknownHandles trace
-unknownHandles (presentHandle at ∷ trace) = unknownHandles trace
-unknownHandles (unknownContent bytes handles ∷ trace) = handles + unknownHandles trace
+unfoldable pub unknown_handles : List Event → ℕ
+unknown_handles [] = 0
+unknown_handles (claimed kind row offset length ∷ trace) = unknown_handles trace
+unknown_handles (present_handle at ∷ trace) = unknown_handles trace
+unknown_handles (unknown_content bytes handles ∷ trace) = handles + unknown_handles trace
 
 -- The byte numbers of unknown content out of line.
-unfoldable pub unknownOutOfLine : List Event → List ℕ
-unknownOutOfLine [] = []
-unknownOutOfLine (claimed kind row offset length ∷ trace) = unknownOutOfLine trace
-unknownOutOfLine (presentHandle at ∷ trace) = unknownOutOfLine trace
-unknownOutOfLine (unknownContent bytes handles ∷ trace) =
-    if eqb bytes 0 then unknownOutOfLine trace else (bytes ∷ unknownOutOfLine trace)
+unfoldable pub unknown_out_of_line : List Event → List ℕ
+unknown_out_of_line [] = []
+unknown_out_of_line (claimed kind row offset length ∷ trace) = unknown_out_of_line trace
+unknown_out_of_line (present_handle at ∷ trace) = unknown_out_of_line trace
+unknown_out_of_line (unknown_content bytes handles ∷ trace) =
+    if eqb bytes 0 then unknown_out_of_line trace else (bytes ∷ unknown_out_of_line trace)
 
 -- ---- what holds of an object list
 
@@ -86,13 +86,13 @@ FillsAreZero bytes (kind ∷ row ∷ offset ∷ length ∷ objects) =
     (part bytes (offset + length) (padded length - length) ≡ zeros (padded length - length)) × FillsAreZero bytes objects
 
 -- The lengths of the objects that are unknown content.
-unfoldable pub unknownLengths : (objects : List ℕ) → List ℕ
-unknownLengths [] = []
-unknownLengths (kind ∷ []) = []
-unknownLengths (kind ∷ row ∷ []) = []
-unknownLengths (kind ∷ row ∷ offset ∷ []) = []
-unknownLengths (kind ∷ row ∷ offset ∷ length ∷ objects) =
-    if eqb kind unknownObject then (length ∷ unknownLengths objects) else unknownLengths objects
+unfoldable pub unknown_lengths : (objects : List ℕ) → List ℕ
+unknown_lengths [] = []
+unknown_lengths (kind ∷ []) = []
+unknown_lengths (kind ∷ row ∷ []) = []
+unknown_lengths (kind ∷ row ∷ offset ∷ []) = []
+unknown_lengths (kind ∷ row ∷ offset ∷ length ∷ objects) =
+    if eqb kind unknown_object then (length ∷ unknown_lengths objects) else unknown_lengths objects
 
 -- ---- what holds of the present handles
 
@@ -100,5 +100,5 @@ unknownLengths (kind ∷ row ∷ offset ∷ length ∷ objects) =
 unfoldable pub PresentHandlesAreOnes : (bytes : List ℕ) (trace : List Event) → Type 0
 PresentHandlesAreOnes bytes [] = Unit {0}
 PresentHandlesAreOnes bytes (claimed kind row offset length ∷ trace) = PresentHandlesAreOnes bytes trace
-PresentHandlesAreOnes bytes (presentHandle at ∷ trace) = (word bytes at 4 ≡ ones32) × PresentHandlesAreOnes bytes trace
-PresentHandlesAreOnes bytes (unknownContent byte-number handles ∷ trace) = PresentHandlesAreOnes bytes trace
+PresentHandlesAreOnes bytes (present_handle at ∷ trace) = (word bytes at 4 ≡ ones32) × PresentHandlesAreOnes bytes trace
+PresentHandlesAreOnes bytes (unknown_content byte-number handles ∷ trace) = PresentHandlesAreOnes bytes trace

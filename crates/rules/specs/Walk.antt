@@ -5,20 +5,20 @@ use mathlib.Core.List.{List, [], ◌∷◌}
 use Rattle.rules.specs.declared.Place.TheVariants.{Row, Byte}
 use Rattle.rules.specs.declared.Fault.{Fault}
 use Rattle.rules.specs.declared.Layout.{Layout}
-use Rattle.rules.specs.Refusals.{fault, tableNotSound, textNotUtf8}
+use Rattle.rules.specs.Refusals.{fault, table_not_sound, text_not_utf8}
 use Rattle.rules.specs.Bytes.{ones32, ones64}
-use Rattle.rules.specs.TypeTable.{envelopeSize, FidlType, bool, number, handle, array, vector, string, struct, box, table, union, strictEnum, strictBits, none, type_of, memberRows, Content, contentOf, below}
-use Rattle.rules.specs.Sizes.{Field, field, fields_of, layoutBelow, size_of}
-use Rattle.rules.specs.Text.{isUtf8, brokenAt}
-use Rattle.rules.specs.Trace.{presentHandle, vectorObject, boxedObject, envelopesObject}
-use Rattle.rules.specs.Decode.{Message, Decoder, nothing, refuse, sequence, elements, recordThen, checked, Deeper, spent, deeper, oneDeeper, fill, claim, takeHandles, optionalEnvelope, lastPresent, zeroEnvelope, presentEnvelope}
-use Rattle.rules.specs.Records.{boolPattern, enumPattern, bitsPattern, ordinalPattern, readNumber, readPresence, readCount, readTable}
-use Rattle.rules.specs.Envelope.{decodeWord, decodeContent}
+use Rattle.rules.specs.TypeTable.{envelope_size, FidlType, bool, number, handle, array, vector, string, struct, box, table, union, strict_enum, strict_bits, none, type_of, member_rows, Content, content_of, below}
+use Rattle.rules.specs.Sizes.{Field, field, fields_of, layout_below, size_of}
+use Rattle.rules.specs.Text.{is_utf8, broken_at}
+use Rattle.rules.specs.Trace.{present_handle, vector_object, boxed_object, envelopes_object}
+use Rattle.rules.specs.Decode.{Message, Decoder, nothing, refuse, sequence, elements, record_then, checked, Deeper, spent, deeper, one_deeper, fill, claim, take_handles, optional_envelope, last_present, zero_envelope, present_envelope}
+use Rattle.rules.specs.Records.{bool_pattern, enum_pattern, bits_pattern, ordinal_pattern, read_number, read_presence, read_count, read_table}
+use Rattle.rules.specs.Envelope.{decode_word, decode_content}
 
 -- 13. W-201: its place "becomes the offset of the first byte of the first sequence that RFC 3629 doesn't allow"; the text starts
 -- at `start`.
-abbrev pub badText : (start : ℕ) (text : List ℕ) → Fault
-badText start text = fault textNotUtf8 (Byte (start + brokenAt text))
+abbrev pub bad_text : (start : ℕ) (text : List ℕ) → Fault
+bad_text start text = fault text_not_utf8 (Byte (start + broken_at text))
 
 module _ (m : Message) where
   -- "Struct: each member, then the fill after it." `inner` walks and lays out the rows of smaller numbers.
@@ -27,84 +27,84 @@ module _ (m : Message) where
   fields layouts inner (field row gap ∷ rest) =
       sequence (layouts row).size (inner row) (sequence gap (fill m gap) (fields layouts inner rest))
 
-  unfoldable pub structFields : (layouts : ℕ → Layout) (inner : ℕ → Decoder) → List Field → Decoder
+  unfoldable pub struct_fields : (layouts : ℕ → Layout) (inner : ℕ → Decoder) → List Field → Decoder
   unfolding fields
-  structFields layouts inner [] = fill m 1
-  structFields layouts inner (f ∷ rest) = fields layouts inner (f ∷ rest)
+  struct_fields layouts inner [] = fill m 1
+  struct_fields layouts inner (f ∷ rest) = fields layouts inner (f ∷ rest)
 
   -- What a record's value leads to, given the record's place.
 
-  abbrev pub afterHandle : (at value : ℕ) → Decoder
-  afterHandle at zero = nothing
-  afterHandle at (suc v) = takeHandles m at (presentHandle at)
+  abbrev pub after_handle : (at value : ℕ) → Decoder
+  after_handle at zero = nothing
+  after_handle at (suc v) = take_handles m at (present_handle at)
 
   -- "present: 12, 5, claim, then elements": from 5 on.
-  abbrev pub afterVector : Deeper → (row element at value : ℕ) → Decoder
-  afterVector below row element at zero = nothing
-  afterVector below row element at (suc count) =
-      oneDeeper below at (λ rows b.
-      claim m vectorObject row (count * size_of m.table element) (elements (size_of m.table element) (λ i. rows element) 0 count))
+  abbrev pub after_vector : Deeper → (row element at value : ℕ) → Decoder
+  after_vector below row element at zero = nothing
+  after_vector below row element at (suc count) =
+      one_deeper below at (λ rows b.
+      claim m vector_object row (count * size_of m.table element) (elements (size_of m.table element) (λ i. rows element) 0 count))
 
   -- "or 13 for a string"
-  abbrev pub afterString : Deeper → (row at value : ℕ) → Decoder
-  afterString below row at zero = nothing
-  afterString below row at (suc count) =
-      oneDeeper below at (λ rows b.
-      claim m vectorObject row (count * 1) (checked isUtf8 badText (elements 1 (λ i. decodeWord m 1) 0 count)))
+  abbrev pub after_string : Deeper → (row at value : ℕ) → Decoder
+  after_string below row at zero = nothing
+  after_string below row at (suc count) =
+      one_deeper below at (λ rows b.
+      claim m vector_object row (count * 1) (checked is_utf8 bad_text (elements 1 (λ i. decode_word m 1) 0 count)))
 
   -- "Box: 8-byte presence. Tests 9, 5, claim": from 5 on.
-  abbrev pub afterBox : Deeper → (element at value : ℕ) → Decoder
-  afterBox below element at zero = nothing
-  afterBox below element at (suc v) =
-      oneDeeper below at (λ rows b. claim m boxedObject element (size_of m.table element) (rows element))
+  abbrev pub after_box : Deeper → (element at value : ℕ) → Decoder
+  after_box below element at zero = nothing
+  after_box below element at (suc v) =
+      one_deeper below at (λ rows b. claim m boxed_object element (size_of m.table element) (rows element))
 
   -- "Tests 9, 10, 5, claim of count envelopes, 19, then envelopes 1 to count": from 5 on.
-  abbrev pub afterTable : Deeper → (row : ℕ) → (ℕ → Content) → (at value : ℕ) → Decoder
-  afterTable below row content at count =
-      let size = envelopeSize m.table.edition in
-      oneDeeper below at (λ rows b.
-      claim m envelopesObject row (count * size)
-      (lastPresent m size count
-      (elements size (λ ordinal. optionalEnvelope m size (eqb ordinal count) (decodeContent m.table.edition m b row (content ordinal))) 1 count)))
+  abbrev pub after_table : Deeper → (row : ℕ) → (ℕ → Content) → (at value : ℕ) → Decoder
+  after_table below row content at count =
+      let size = envelope_size m.table.edition in
+      one_deeper below at (λ rows b.
+      claim m envelopes_object row (count * size)
+      (last_present m size count
+      (elements size (λ ordinal. optional_envelope m size (eqb ordinal count) (decode_content m.table.edition m b row (content ordinal))) 1 count)))
 
   -- "Ordinal 0: 10 if required, 11 if the envelope isn't all zero. Else 17, 18, envelope": after 10 and 17.
-  abbrev pub afterUnion : Deeper → (row : ℕ) → (ℕ → Content) → (at value : ℕ) → Decoder
-  afterUnion below row content at zero = zeroEnvelope m (envelopeSize m.table.edition) at
-  afterUnion below row content at (suc v) =
-      presentEnvelope m (envelopeSize m.table.edition) (decodeContent m.table.edition m below row (content (suc v)))
+  abbrev pub after_union : Deeper → (row : ℕ) → (ℕ → Content) → (at value : ℕ) → Decoder
+  after_union below row content at zero = zero_envelope m (envelope_size m.table.edition) at
+  after_union below row content at (suc v) =
+      present_envelope m (envelope_size m.table.edition) (decode_content m.table.edition m below row (content (suc v)))
 
   -- A value of a row by its kind. A row that is no type has none; the table is then not sound.
-  unfoldable pub decodeAs : Deeper → (layouts : ℕ → Layout) (inner : ℕ → Decoder) → (row : ℕ) → FidlType → Decoder
-  decodeAs deep layouts inner row bool = recordThen 1 (readNumber m 1 boolPattern) (λ at v. nothing)
-  decodeAs deep layouts inner row (number width) = decodeWord m width
-  decodeAs deep layouts inner row (handle optional) = recordThen 4 (readPresence m 4 ones32 optional) afterHandle
-  decodeAs deep layouts inner row (array element count) = elements (layouts element).size (λ i. inner element) 0 count
-  decodeAs deep layouts inner row (vector element largest optional) = recordThen 16 (readCount m optional largest) (afterVector deep row element)
-  decodeAs deep layouts inner row (string largest optional) = recordThen 16 (readCount m optional largest) (afterString deep row)
-  decodeAs deep layouts inner row (struct first count) = structFields layouts inner (fields_of layouts (memberRows m.table first count))
-  decodeAs deep layouts inner row (box element) = recordThen 8 (readPresence m 8 ones64 true) (afterBox deep element)
-  decodeAs deep layouts inner row (table first count) = recordThen 16 (readTable m) (afterTable deep row (contentOf m.table first count))
-  decodeAs deep layouts inner row (union first count optional flexible) =
-      recordThen 8 (readNumber m 8 (ordinalPattern (contentOf m.table first count) optional flexible)) (afterUnion deep row (contentOf m.table first count))
-  decodeAs deep layouts inner row (strictEnum width first count) = recordThen width (readNumber m width (enumPattern m.table first count)) (λ at v. nothing)
-  decodeAs deep layouts inner row (strictBits width mask) = recordThen width (readNumber m width (bitsPattern m.table mask)) (λ at v. nothing)
-  decodeAs deep layouts inner row none = refuse (fault tableNotSound (Row row))
+  unfoldable pub decode_as : Deeper → (layouts : ℕ → Layout) (inner : ℕ → Decoder) → (row : ℕ) → FidlType → Decoder
+  decode_as deep layouts inner row bool = record_then 1 (read_number m 1 bool_pattern) (λ at v. nothing)
+  decode_as deep layouts inner row (number width) = decode_word m width
+  decode_as deep layouts inner row (handle optional) = record_then 4 (read_presence m 4 ones32 optional) after_handle
+  decode_as deep layouts inner row (array element count) = elements (layouts element).size (λ i. inner element) 0 count
+  decode_as deep layouts inner row (vector element largest optional) = record_then 16 (read_count m optional largest) (after_vector deep row element)
+  decode_as deep layouts inner row (string largest optional) = record_then 16 (read_count m optional largest) (after_string deep row)
+  decode_as deep layouts inner row (struct first count) = struct_fields layouts inner (fields_of layouts (member_rows m.table first count))
+  decode_as deep layouts inner row (box element) = record_then 8 (read_presence m 8 ones64 true) (after_box deep element)
+  decode_as deep layouts inner row (table first count) = record_then 16 (read_table m) (after_table deep row (content_of m.table first count))
+  decode_as deep layouts inner row (union first count optional flexible) =
+      record_then 8 (read_number m 8 (ordinal_pattern (content_of m.table first count) optional flexible)) (after_union deep row (content_of m.table first count))
+  decode_as deep layouts inner row (strict_enum width first count) = record_then width (read_number m width (enum_pattern m.table first count)) (λ at v. nothing)
+  decode_as deep layouts inner row (strict_bits width mask) = record_then width (read_number m width (bits_pattern m.table mask)) (λ at v. nothing)
+  decode_as deep layouts inner row none = refuse (fault table_not_sound (Row row))
 
   abbrev pub no_row : Decoder
-  no_row = refuse (fault tableNotSound (Row 256))
+  no_row = refuse (fault table_not_sound (Row 256))
 
-  abbrev pub decodeStep : Deeper → (ℕ → Decoder) → ℕ → Decoder
-  decodeStep deep inner row = decodeAs deep (layoutBelow m.table row) inner row (type_of m.table row)
+  abbrev pub decode_step : Deeper → (ℕ → Decoder) → ℕ → Decoder
+  decode_step deep inner row = decode_as deep (layout_below m.table row) inner row (type_of m.table row)
 
   -- A value of any row, with so much lying deeper.
-  unfoldable pub decodeBelow : Deeper → (bound row : ℕ) → Decoder
+  unfoldable pub decode_below : Deeper → (bound row : ℕ) → Decoder
   unfolding below
-  decodeBelow deep bound row = below no_row (decodeStep deep) bound row
+  decode_below deep bound row = below no_row (decode_step deep) bound row
 
-  unfoldable pub decodeRow : Deeper → ℕ → Decoder
-  decodeRow deep row = decodeStep deep (decodeBelow deep row) row
+  unfoldable pub decode_row : Deeper → ℕ → Decoder
+  decode_row deep row = decode_step deep (decode_below deep row) row
 
   -- "until the depth of 32 is spent": so many levels.
   unfoldable pub levels : ℕ → Deeper
   levels zero = spent
-  levels (suc depth) = deeper (decodeRow (levels depth)) (levels depth)
+  levels (suc depth) = deeper (decode_row (levels depth)) (levels depth)

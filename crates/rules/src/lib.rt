@@ -1,6 +1,6 @@
 // The types that answers are made of, for the rules in specs/ and for all code that is proved against them.
 ghost use Rattle.std.specs.Prelude.{◌≡◌};
-ghost use Rattle.rules.specs.Refusals.{placeNumber};
+ghost use Rattle.rules.specs.Refusals.{place_number};
 
 // What the place of a refusal names: a row of the type table (256: the lists as a whole), a byte of the
 // message, a number of the value list, or an amount (handles used, or the room needed).
@@ -28,7 +28,7 @@ pub struct Layout {
 
 // A refusal's place as document 01 answers it: a plain number.
 pub fn place_number(f: Fault) -> u64
-    ensures { result ≡ placeNumber f.place }
+    ensures { result ≡ place_number f.place }
 {
     let place = f.place;
     match place {

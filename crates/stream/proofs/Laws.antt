@@ -12,37 +12,37 @@ use lib.ListN.{length, drop, get_or, set, length-set, length-drop, drop_of_lengt
 use lib.Seq.{sets, drop-cons, set_out, length-take-le}
 use Rattle.rules.specs.Refusals.{if◌then◌else◌}
 use Rattle.rules.proofs.Tests.{both}
-use Rattle.stream.specs.Numbers.{isDigit, withDigit, numbersOf, lineLength, LineRead, listAt, start_at, narrowed, Narrows, thirdPlace, TablePut, same_numbers}
+use Rattle.stream.specs.Numbers.{is_digit, with_digit, numbers_of, line_length, LineRead, list_at, start_at, narrowed, Narrows, third_place, TablePut, same_numbers}
 
 -- ---- a line
 
-pub digit-bounds : (byte : ℕ) → isDigit byte ≡ true → (48 ≤ byte) × (byte ≤ 57)
-digit-bounds byte digit =
+pub digit_bounds : (byte : ℕ) → is_digit byte ≡ true → (48 ≤ byte) × (byte ≤ 57)
+digit_bounds byte digit =
     let tests = both (leb 48 byte) (leb byte 57) digit in
     (leb-true 48 byte tests.0, leb-true byte 57 tests.1)
 
 module _ (text : List ℕ) (at value : ℕ) (inside : at < length text) where
   numbers-at-digit :
-      isDigit (get_or text at 0) ≡ true →
-      numbersOf (drop at text) value ≡ numbersOf (drop (at + 1) text) (withDigit value (get_or text at 0))
-  unfolding numbersOf
+      is_digit (get_or text at 0) ≡ true →
+      numbers_of (drop at text) value ≡ numbers_of (drop (at + 1) text) (with_digit value (get_or text at 0))
+  unfolding numbers_of
   numbers-at-digit digit = rw (add-one, drop-cons text at 0) (simp digit)
 
   numbers-at-end :
-      isDigit (get_or text at 0) ≡ false →
-      numbersOf (drop at text) value ≡ value ∷ (if eqb (get_or text at 0) 10 then [] else numbersOf (drop (at + 1) text) 0)
-  unfolding numbersOf
+      is_digit (get_or text at 0) ≡ false →
+      numbers_of (drop at text) value ≡ value ∷ (if eqb (get_or text at 0) 10 then [] else numbers_of (drop (at + 1) text) 0)
+  unfolding numbers_of
   numbers-at-end other = rw (add-one, drop-cons text at 0) (simp other)
 
-  length_at : lineLength (drop at text) ≡ suc (if eqb (get_or text at 0) 10 then 0 else lineLength (drop (at + 1) text))
-  unfolding lineLength
+  length_at : line_length (drop at text) ≡ suc (if eqb (get_or text at 0) 10 then 0 else line_length (drop (at + 1) text))
+  unfolding line_length
   length_at = rw (add-one, drop-cons text at 0)
 
 -- Part of a line was read: reading on from a place, in the middle of a number, comes to the same as reading it whole.
 pub record Reads (text : List ℕ) (from : ℕ) (lent : List ℕ) (value count at : ℕ) (numbers : List ℕ) : Type 0 where
-  pub counted : count + length (numbersOf (drop at text) value) ≡ length (numbersOf (drop from text) 0)
-  pub passed : at + lineLength (drop at text) ≡ from + lineLength (drop from text)
-  pub put : sets numbers count (numbersOf (drop at text) value) ≡ sets lent 0 (numbersOf (drop from text) 0)
+  pub counted : count + length (numbers_of (drop at text) value) ≡ length (numbers_of (drop from text) 0)
+  pub passed : at + line_length (drop at text) ≡ from + line_length (drop from text)
+  pub put : sets numbers count (numbers_of (drop at text) value) ≡ sets lent 0 (numbers_of (drop from text) 0)
   pub few : count ≤ at
   pub room : length numbers ≡ length lent
 
@@ -53,12 +53,12 @@ module _
     {text : List ℕ} {from value count at : ℕ} {lent numbers : List ℕ}
     (inside : at < length text) (read : Reads text from lent value count at numbers) where
   pub digit-read :
-      {next : ℕ} → isDigit (get_or text at 0) ≡ true → next ≡ withDigit value (get_or text at 0) →
+      {next : ℕ} → is_digit (get_or text at 0) ≡ true → next ≡ with_digit value (get_or text at 0) →
       Reads text from lent next count (at + 1) numbers
   digit-read digit is =
-      let bounds = digit-bounds (get_or text at 0) digit in
+      let bounds = digit_bounds (get_or text at 0) digit in
       let feed : eqb (get_or text at 0) 10 ≡ false = ne_eqb (get_or text at 0) 10 (λ e. omega arith) in
-      let same = numbers-at-digit text at value inside digit ∙ ap (numbersOf (drop (at + 1) text)) (sym is) in
+      let same = numbers-at-digit text at value inside digit ∙ ap (numbers_of (drop (at + 1) text)) (sym is) in
       record {
         counted = rw same at read.counted;
         passed = omega (arith, read.passed, simp feed at (length_at text at value inside));
@@ -67,7 +67,7 @@ module _
         room = read.room;
       }
 
-  module _ {after : List ℕ} (other : isDigit (get_or text at 0) ≡ false) (stored : after ≡ set numbers count value) where
+  module _ {after : List ℕ} (other : is_digit (get_or text at 0) ≡ false) (stored : after ≡ set numbers count value) where
     pub number_read : (get_or text at 0 ≡ 10 → ⊥) → Reads text from lent 0 (count + 1) (at + 1) after
     number_read no-feed =
         let feed : eqb (get_or text at 0) 10 ≡ false = ne_eqb (get_or text at 0) 10 no-feed in
@@ -93,7 +93,7 @@ module _
 pub text-read :
     {text : List ℕ} {from value count at : ℕ} {lent numbers : List ℕ} →
     length text ≤ at → Reads text from lent value count at numbers → LineRead (drop from text) from lent count at numbers
-unfolding numbersOf lineLength
+unfolding numbers_of line_length
 text-read {text} {at = at} ended read =
     let nothing = drop_of_length-le text ended in
     record {
@@ -102,21 +102,21 @@ text-read {text} {at = at} ended read =
       put = rw nothing at read.put;
     }
 
-feed-or-more : (feed : Bool) (line rest : ℕ) → line ≤ rest → suc (if feed then 0 else line) ≤ suc rest
-feed-or-more true line rest within = omega arith
-feed-or-more false line rest within = omega arith
+feed_or_more : (feed : Bool) (line rest : ℕ) → line ≤ rest → suc (if feed then 0 else line) ≤ suc rest
+feed_or_more true line rest within = omega arith
+feed_or_more false line rest within = omega arith
 
-line-within : (bytes : List ℕ) → lineLength bytes ≤ length bytes
-unfolding lineLength
-line-within [] = omega arith
-line-within (byte ∷ bytes) = feed-or-more (eqb byte 10) (lineLength bytes) (length bytes) (line-within bytes)
+line_within : (bytes : List ℕ) → line_length bytes ≤ length bytes
+unfolding line_length
+line_within [] = omega arith
+line_within (byte ∷ bytes) = feed_or_more (eqb byte 10) (line_length bytes) (length bytes) (line_within bytes)
 
 -- The next line lies further on, and within the text.
 line-length :
     (text : List ℕ) (at : ℕ) → at < length text →
-    (0 < lineLength (drop at text)) × (at + lineLength (drop at text) ≤ length text)
+    (0 < line_length (drop at text)) × (at + line_length (drop at text) ≤ length text)
 line-length text at inside =
-    omega (arith, length_at text at 0 inside, line-within (drop at text), length-drop at text)
+    omega (arith, length_at text at 0 inside, line_within (drop at text), length-drop at text)
 
 -- The next line lies further on, and within the text.
 pub line-moved :
@@ -147,9 +147,9 @@ unfolding same_numbers
 same_ends xs ys at left right = rw (drop_of_length-le xs left, drop_of_length-le ys right)
 
 -- Stores past the end vanish.
-sets-past : (l : List ℕ) (at : ℕ) (vs : List ℕ) → length l ≤ at → sets l at vs ≡ l
-sets-past l at [] past = refl
-sets-past l at (v ∷ vs) past = rw (set_out l at v past) (sets-past l (suc at) vs (omega arith))
+sets_past : (l : List ℕ) (at : ℕ) (vs : List ℕ) → length l ≤ at → sets l at vs ≡ l
+sets_past l at [] past = refl
+sets_past l at (v ∷ vs) past = rw (set_out l at v past) (sets_past l (suc at) vs (omega arith))
 
 -- Some numbers were stored: storing on from a place comes to the same as storing all.
 pub record Stores (limit : ℕ) (numbers lent : List ℕ) (at : ℕ) (stores : List ℕ) : Type 0 where
@@ -180,40 +180,40 @@ module _ {limit : ℕ} {numbers lent stores : List ℕ} {at : ℕ} (stored : Sto
   narrows counted put =
       record { within = stored.within; long = sym (length-take-le at stores stored.within); counted = counted; put = put }
 
-  pub room-full : length stores ≤ at → Narrows limit numbers lent at stores
-  room-full full =
+  pub room_full : length stores ≤ at → Narrows limit numbers lent at stores
+  room_full full =
       narrows (omega (arith, stored.inside, stored.within, stored.room))
-      (sym (sets-past stores at (narrowed limit (drop at numbers)) full) ∙ stored.put)
+      (sym (sets_past stores at (narrowed limit (drop at numbers)) full) ∙ stored.put)
 
-  pub all-stored : length numbers ≤ at → Narrows limit numbers lent at stores
+  pub all_stored : length numbers ≤ at → Narrows limit numbers lent at stores
   unfolding narrowed
-  all-stored ended =
+  all_stored ended =
       narrows (omega (arith, stored.inside, stored.within, stored.room))
       (rw (drop_of_length-le numbers ended) at stored.put)
 
 -- ---- parts that are handed back
 
 -- Where a part starts, by its own place,
-pub start-inside : (numbers : List ℕ) (at : ℕ) (start : ℕ × ℕ) → at ≤ length numbers → (start.0, at * 8 + start.1) ≡ start_at numbers at start
-start-inside numbers at start inside = simp (le-leb at (length numbers) inside)
+pub start_inside : (numbers : List ℕ) (at : ℕ) (start : ℕ × ℕ) → at ≤ length numbers → (start.0, at * 8 + start.1) ≡ start_at numbers at start
+start_inside numbers at start inside = simp (le-leb at (length numbers) inside)
 
 -- and past the end.
-pub start-past : (numbers : List ℕ) (at : ℕ) (start : ℕ × ℕ) → length numbers < at → start ≡ start_at numbers at start
-start-past numbers at start past = simp (lt-leb at (length numbers) past)
+pub start_past : (numbers : List ℕ) (at : ℕ) (start : ℕ × ℕ) → length numbers < at → start ≡ start_at numbers at start
+start_past numbers at start past = simp (lt-leb at (length numbers) past)
 
 -- ---- a type table
 
 pub table-put :
     (numbers : List ℕ) {row_List member-list entry-list rows members rows' members' : List ℕ} {row_count member-count entries next : ℕ} →
-    row_List ≡ listAt numbers 0 → member-list ≡ listAt numbers (1 + length row_List) → entry-list ≡ listAt numbers entries →
+    row_List ≡ list_at numbers 0 → member-list ≡ list_at numbers (1 + length row_List) → entry-list ≡ list_at numbers entries →
     Narrows 4294967296 row_List rows row_count rows' → Narrows 4294967296 member-list members member-count members' →
     entries ≡ 1 + length row_List + 1 + length member-list → next ≡ entries + 1 + length entry-list → next < 4611686018427387904 →
     TablePut numbers rows members row_count member-count entries next rows' members'
-table-put numbers {row_List} {member-list} {entry-list} {entries = entries} {next = next} row-list-is member-list-is entry-list-is rows-put members-put third passed near =
-    let third-is : entries ≡ thirdPlace numbers = rw (member-list-is, row-list-is) at third in
+table-put numbers {row_List} {member-list} {entry-list} {entries = entries} {next = next} row-list-is member-list-is entry-list-is rows_put members_put third passed near =
+    let third-is : entries ≡ third_place numbers = rw (member-list-is, row-list-is) at third in
     record {
-      rows-put = rw row-list-is at rows-put;
-      members-put = rw (member-list-is, row-list-is) at members-put;
+      rows_put = rw row-list-is at rows_put;
+      members_put = rw (member-list-is, row-list-is) at members_put;
       third = third-is;
       passed = rw (entry-list-is, third-is) at passed;
       near = near;

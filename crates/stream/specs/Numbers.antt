@@ -5,34 +5,34 @@ use Rattle.std.proofs.lemmas.List.Edits.{sets}
 use Rattle.rules.specs.Refusals.{if◌then◌else◌}
 use Rattle.rules.specs.Bytes.{ones64}
 
-abbrev pub isDigit : ℕ → Bool
-isDigit byte = leb 48 byte && leb byte 57
+abbrev pub is_digit : ℕ → Bool
+is_digit byte = leb 48 byte && leb byte 57
 
 -- One more digit behind a number; over 64 bits it stays at the largest.
-abbrev pub withDigit : (value byte : ℕ) → ℕ
-withDigit value byte = min (value * 10 + (byte - 48)) ones64
+abbrev pub with_digit : (value byte : ℕ) → ℕ
+with_digit value byte = min (value * 10 + (byte - 48)) ones64
 
 -- The numbers of a line, the first of them begun with a value. Every byte that is no digit ends a number, and a line feed
 -- ends the line too.
-unfoldable pub numbersOf : (bytes : List ℕ) (value : ℕ) → List ℕ
-numbersOf [] value = []
-numbersOf (byte ∷ bytes) value =
-    if isDigit byte then numbersOf bytes (withDigit value byte) else value ∷ (if eqb byte 10 then [] else numbersOf bytes 0)
+unfoldable pub numbers_of : (bytes : List ℕ) (value : ℕ) → List ℕ
+numbers_of [] value = []
+numbers_of (byte ∷ bytes) value =
+    if is_digit byte then numbers_of bytes (with_digit value byte) else value ∷ (if eqb byte 10 then [] else numbers_of bytes 0)
 
 -- The length of a line, with its line feed.
-unfoldable pub lineLength : List ℕ → ℕ
-lineLength [] = 0
-lineLength (byte ∷ bytes) = suc (if eqb byte 10 then 0 else lineLength bytes)
+unfoldable pub line_length : List ℕ → ℕ
+line_length [] = 0
+line_length (byte ∷ bytes) = suc (if eqb byte 10 then 0 else line_length bytes)
 
 -- Reading a line: its numbers are counted and put into a list that was lent, and the next line starts after it.
 pub record LineRead (bytes : List ℕ) (from : ℕ) (lent : List ℕ) (count next : ℕ) (after : List ℕ) : Type 0 where
-  pub counted : count ≡ length (numbersOf bytes 0)
-  pub passed : next ≡ from + lineLength bytes
-  pub put : after ≡ sets lent 0 (numbersOf bytes 0)
+  pub counted : count ≡ length (numbers_of bytes 0)
+  pub passed : next ≡ from + line_length bytes
+  pub put : after ≡ sets lent 0 (numbers_of bytes 0)
 
 -- The list whose length stands at a place of a case.
-abbrev pub listAt : (numbers : List ℕ) (at : ℕ) → List ℕ
-listAt numbers at = take (get_or numbers at 0) (drop (at + 1) numbers)
+abbrev pub list_at : (numbers : List ℕ) (at : ℕ) → List ℕ
+list_at numbers at = take (get_or numbers at 0) (drop (at + 1) numbers)
 
 -- Where the part of a list from a place on starts, by block and offset, if it is handed back: in the list itself, 8 bytes a
 -- number; past its end, at its empty start.
@@ -52,22 +52,22 @@ pub record Narrows (limit : ℕ) (numbers lent : List ℕ) (count : ℕ) (after 
   pub put : after ≡ sets lent 0 (narrowed limit numbers)
 
 -- Where the second and the third of three lists stand, and what comes after them.
-abbrev pub secondPlace : List ℕ → ℕ
-secondPlace numbers = 1 + length (listAt numbers 0)
+abbrev pub second_place : List ℕ → ℕ
+second_place numbers = 1 + length (list_at numbers 0)
 
-abbrev pub thirdPlace : List ℕ → ℕ
-thirdPlace numbers = secondPlace numbers + 1 + length (listAt numbers (secondPlace numbers))
+abbrev pub third_place : List ℕ → ℕ
+third_place numbers = second_place numbers + 1 + length (list_at numbers (second_place numbers))
 
-abbrev pub afterThird : List ℕ → ℕ
-afterThird numbers = thirdPlace numbers + 1 + length (listAt numbers (thirdPlace numbers))
+abbrev pub after_third : List ℕ → ℕ
+after_third numbers = third_place numbers + 1 + length (list_at numbers (third_place numbers))
 
 -- Putting a type table: the row list that stands first and the member list after it are stored in lists of words that were
 -- lent; the entries stand third; the numbers after them start at a place so near that it can be counted on from there.
 pub record TablePut (numbers rows members : List ℕ) (row_count member-count entries next : ℕ) (rows' members' : List ℕ) : Type 0 where
-  pub rows-put : Narrows 4294967296 (listAt numbers 0) rows row_count rows'
-  pub members-put : Narrows 4294967296 (listAt numbers (secondPlace numbers)) members member-count members'
-  pub third : entries ≡ thirdPlace numbers
-  pub passed : next ≡ afterThird numbers
+  pub rows_put : Narrows 4294967296 (list_at numbers 0) rows row_count rows'
+  pub members_put : Narrows 4294967296 (list_at numbers (second_place numbers)) members member-count members'
+  pub third : entries ≡ third_place numbers
+  pub passed : next ≡ after_third numbers
   pub near : next < 4611686018427387904
 
 -- Are two lists of numbers equal?

@@ -1,7 +1,7 @@
 // The number stream: a case is a line of decimal numbers. Every byte that is no digit ends a number, and a line feed ends
 // the line too. In a case a list stands as its length and then its numbers.
 ghost use Rattle.std.specs.Prelude.{◌≡◌, ◌+◌, ◌≤◌, length, take, drop, replicate};
-ghost use Rattle.stream.specs.Numbers.{isDigit, withDigit, LineRead, listAt, start_at, Narrows, TablePut, same_numbers};
+ghost use Rattle.stream.specs.Numbers.{is_digit, with_digit, LineRead, list_at, start_at, Narrows, TablePut, same_numbers};
 
 // Room for a stream, and for the numbers of a line of it.
 pub const TEXT_ROOM: usize = 655360;
@@ -54,14 +54,14 @@ pub fn read_line(text: &[u8], from: usize, numbers: &mut [u64]) -> Line
 }
 
 fn is_digit(byte: u8) -> bool
-    ensures { result ≡ isDigit byte }
+    ensures { result ≡ is_digit byte }
 {
     (48 <= byte) & (byte <= 57)
 }
 
 fn with_digit(value: u64, byte: u8) -> u64
     requires { (48 ≤ byte) × (byte ≤ 57) }
-    ensures { result ≡ withDigit value byte }
+    ensures { result ≡ with_digit value byte }
 {
     let digit = (byte - 48) as u64;
     if value <= (u64::MAX - digit) / 10 {
@@ -97,7 +97,7 @@ pub fn first(numbers: &[u64], count: usize) -> &[u64]
 
 // The list whose length stands at a place of a case.
 pub fn list(case: &[u64], at: usize) -> &[u64]
-    ensures numbers { result.now ≡ listAt case.now at }
+    ensures numbers { result.now ≡ list_at case.now at }
     ensures start { result.ref_ptr ≡ start_at case.now (at + 1) case.entry.ref_ptr }
 {
     if case.len() <= at {

@@ -9,36 +9,36 @@ use borrow.Author.Tests.{ne_eqb, eqb-true, eqb-false, ltb-true, ltb-false}
 use lib.Dec.{eqb, ltb}
 use lib.ListN.{length}
 use Rattle.rules.specs.Refusals.{if◌then◌else◌}
-use Rattle.rules.specs.TypeTable.{entryIn}
-use Rattle.rules.specs.Records.{amongEntries}
-use Rattle.layout.proofs.Rising.{rises, not-falls}
-use Rattle.strict.specs.Strict.{Rising, shiftAway}
+use Rattle.rules.specs.TypeTable.{entry_in}
+use Rattle.rules.specs.Records.{among_entries}
+use Rattle.layout.proofs.Rising.{rises, not_falls}
+use Rattle.strict.specs.Strict.{Rising, shift_away}
 
 -- ---- any entries
 
 module _ (entries : List ℕ) (value : ℕ) where
-  among_none : (first count : ℕ) → ((k : ℕ) → first ≤ k → k < first + count → entryIn entries k ≡ value → ⊥) → amongEntries entries first count value ≡ false
-  unfolding amongEntries
+  among_none : (first count : ℕ) → ((k : ℕ) → first ≤ k → k < first + count → entry_in entries k ≡ value → ⊥) → among_entries entries first count value ≡ false
+  unfolding among_entries
   among_none first zero other = refl
   among_none first (suc count) other =
-      rw (ne_eqb (entryIn entries first) value (other first (omega arith) (omega arith)))
+      rw (ne_eqb (entry_in entries first) value (other first (omega arith) (omega arith)))
       (among_none (suc first) count (λ k h l. other k (omega arith) (omega arith)))
 
-  among-found : (first count k : ℕ) → first ≤ k → k < first + count → entryIn entries k ≡ value → amongEntries entries first count value ≡ true
-  unfolding amongEntries
-  among-found first zero k h l e = absurd (omega arith)
-  among-found first (suc count) k h l e =
-      go (eqb (entryIn entries first) value) refl (λ i. among-found (suc first) count k i (omega arith) e)
+  among_found : (first count k : ℕ) → first ≤ k → k < first + count → entry_in entries k ≡ value → among_entries entries first count value ≡ true
+  unfolding among_entries
+  among_found first zero k h l e = absurd (omega arith)
+  among_found first (suc count) k h l e =
+      go (eqb (entry_in entries first) value) refl (λ i. among_found (suc first) count k i (omega arith) e)
     where
-      go : (b : Bool) → eqb (entryIn entries first) value ≡ b → (suc first ≤ k → amongEntries entries (suc first) count value ≡ true)
-          → (b || amongEntries entries (suc first) count value) ≡ true
+      go : (b : Bool) → eqb (entry_in entries first) value ≡ b → (suc first ≤ k → among_entries entries (suc first) count value ≡ true)
+          → (b || among_entries entries (suc first) count value) ≡ true
       go true q later = refl
       go false q later =
-          let n : (first ≡ k → ⊥) = λ z. eqb-false (entryIn entries first) value q (rw z e) in
+          let n : (first ≡ k → ⊥) = λ z. eqb-false (entry_in entries first) value q (rw z e) in
           later (omega (arith, n))
 
-  pub among-empty : (first count : ℕ) → count ≡ 0 → false ≡ amongEntries entries first count value
-  among-empty first count e = sym (among_none first count (λ k h l. absurd (omega arith)))
+  pub among_empty : (first count : ℕ) → count ≡ 0 → false ≡ among_entries entries first count value
+  among_empty first count e = sym (among_none first count (λ k h l. absurd (omega arith)))
 
 -- ---- entries that rise
 
@@ -47,24 +47,24 @@ pub record Narrowed (entries : List ℕ) (first count value low left : ℕ) : Ty
   pub from : first ≤ low
   pub some : 1 ≤ left
   pub upto : low + left ≤ first + count
-  pub only : (k : ℕ) → first ≤ k → k < first + count → entryIn entries k ≡ value → (low ≤ k) × (k < low + left)
+  pub only : (k : ℕ) → first ≤ k → k < first + count → entry_in entries k ≡ value → (low ≤ k) × (k < low + left)
 
 -- A shift that the language allows.
-pub away-small : {away : ℕ} (value entry : ℕ) → away ≡ shiftAway value entry → away < 64
-away-small {away} value entry is = go (ltb value entry) is
+pub away_small : {away : ℕ} (value entry : ℕ) → away ≡ shift_away value entry → away < 64
+away_small {away} value entry is = go (ltb value entry) is
   where
     go : (below : Bool) → away ≡ (if below then 32 else 0) → away < 64
     go true e = omega arith
     go false e = omega arith
 
-pub narrowed-whole : {entries : List ℕ} {first count value : ℕ} → (count ≡ 0 → ⊥) → Narrowed entries first count value first count
-narrowed-whole n = record { from = omega arith; some = omega (arith, n); upto = omega arith; only = λ k h l e. (omega arith, omega arith) }
+pub narrowed_whole : {entries : List ℕ} {first count value : ℕ} → (count ≡ 0 → ⊥) → Narrowed entries first count value first count
+narrowed_whole n = record { from = omega arith; some = omega (arith, n); upto = omega arith; only = λ k h l e. (omega arith, omega arith) }
 
 module _ {entries : List ℕ} {first count value low left : ℕ} (s : Narrowed entries first count value low left) where
   module _ (rising : Rising entries first count) (more : 1 < left) where
     -- The middle entry is at most the value: those before it are smaller;
-    pub narrowed-up : entryIn entries (low + left / 2) ≤ value → Narrowed entries first count value (low + left / 2) (left - left / 2)
-    narrowed-up q = record {
+    pub narrowed_up : entry_in entries (low + left / 2) ≤ value → Narrowed entries first count value (low + left / 2) (left - left / 2)
+    narrowed_up q = record {
       from = omega (arith, s.from);
       some = omega arith;
       upto = omega (arith, s.upto);
@@ -72,47 +72,47 @@ module _ {entries : List ℕ} {first count value low left : ℕ} (s : Narrowed e
           (go k h l e (ltb k (low + left / 2)) refl, omega (arith, s.only k h l e));
     }
       where
-        go : (k : ℕ) → first ≤ k → k < first + count → entryIn entries k ≡ value → (b : Bool) → ltb k (low + left / 2) ≡ b → low + left / 2 ≤ k
+        go : (k : ℕ) → first ≤ k → k < first + count → entry_in entries k ≡ value → (b : Bool) → ltb k (low + left / 2) ≡ b → low + left / 2 ≤ k
         go k h l e true z =
             let before : k < low + left / 2 = ltb-true k (low + left / 2) z in
-            absurd (omega (arith, rises (λ i. entryIn entries i) first count rising k (low + left / 2) h before (omega (arith, s.upto))))
+            absurd (omega (arith, rises (λ i. entry_in entries i) first count rising k (low + left / 2) h before (omega (arith, s.upto))))
         go k h l e false z = ltb-false k (low + left / 2) z
 
     -- it is larger: so are those after it.
-    pub narrowed-down : value < entryIn entries (low + left / 2) → Narrowed entries first count value low (left - left / 2)
-    narrowed-down q = record {
+    pub narrowed_down : value < entry_in entries (low + left / 2) → Narrowed entries first count value low (left - left / 2)
+    narrowed_down q = record {
       from = s.from;
       some = omega arith;
       upto = omega (arith, s.upto);
       only = λ k h l e. ((s.only k h l e).0, go k h l e (ltb k (low + left / 2)) refl);
     }
       where
-        go : (k : ℕ) → first ≤ k → k < first + count → entryIn entries k ≡ value → (b : Bool) → ltb k (low + left / 2) ≡ b → k < low + (left - left / 2)
+        go : (k : ℕ) → first ≤ k → k < first + count → entry_in entries k ≡ value → (b : Bool) → ltb k (low + left / 2) ≡ b → k < low + (left - left / 2)
         go k h l e true z = omega (arith, ltb-true k (low + left / 2) z)
         go k h l e false z =
             let after : low + left / 2 ≤ k = ltb-false k (low + left / 2) z in
-            absurd (omega (arith, not-falls (λ i. entryIn entries i) first count rising (low + left / 2) k (omega (arith, s.from)) after l))
+            absurd (omega (arith, not_falls (λ i. entry_in entries i) first count rising (low + left / 2) k (omega (arith, s.from)) after l))
 
   -- One entry is left.
   -- A turn of the search: the lower end moves by a half, or by nothing.
-  pub narrowed-next : Rising entries first count → 1 < left → first + count ≤ length entries → length entries ≤ 1024 → {away : ℕ} → away ≡ shiftAway value (entryIn entries (low + left / 2))
+  pub narrowed_next : Rising entries first count → 1 < left → first + count ≤ length entries → length entries ≤ 1024 → {away : ℕ} → away ≡ shift_away value (entry_in entries (low + left / 2))
       → Narrowed entries first count value (low + left / 2 / 2 ^ away) (left - left / 2)
-  narrowed-next rising more exist few {away} is = go (ltb value (entryIn entries (low + left / 2))) refl is
+  narrowed_next rising more exist few {away} is = go (ltb value (entry_in entries (low + left / 2))) refl is
     where
-      go : (below : Bool) → ltb value (entryIn entries (low + left / 2)) ≡ below → away ≡ (if below then 32 else 0)
+      go : (below : Bool) → ltb value (entry_in entries (low + left / 2)) ≡ below → away ≡ (if below then 32 else 0)
           → Narrowed entries first count value (low + left / 2 / 2 ^ away) (left - left / 2)
       go true q e =
           let stays : low + left / 2 / 2 ^ 32 ≡ low = omega (arith, s.upto) in
-          rw (e, stays) (narrowed-down rising more (ltb-true value (entryIn entries (low + left / 2)) q))
+          rw (e, stays) (narrowed_down rising more (ltb-true value (entry_in entries (low + left / 2)) q))
       go false q e =
           let moves : left / 2 / 2 ^ 0 ≡ left / 2 = omega arith in
-          rw (e, moves) (narrowed-up rising more (ltb-false value (entryIn entries (low + left / 2)) q))
+          rw (e, moves) (narrowed_up rising more (ltb-false value (entry_in entries (low + left / 2)) q))
 
-  pub narrowed-one : left ≤ 1 → eqb (entryIn entries low) value ≡ amongEntries entries first count value
-  narrowed-one h = go (eqb (entryIn entries low) value) refl
+  pub narrowed_one : left ≤ 1 → eqb (entry_in entries low) value ≡ among_entries entries first count value
+  narrowed_one h = go (eqb (entry_in entries low) value) refl
     where
-      go : (b : Bool) → eqb (entryIn entries low) value ≡ b → b ≡ amongEntries entries first count value
-      go true q = sym (among-found entries value first count low s.from (omega (arith, s.some, s.upto)) (eqb-true (entryIn entries low) value q))
+      go : (b : Bool) → eqb (entry_in entries low) value ≡ b → b ≡ among_entries entries first count value
+      go true q = sym (among_found entries value first count low s.from (omega (arith, s.some, s.upto)) (eqb-true (entry_in entries low) value q))
       go false q = sym (among_none entries value first count (λ k i l e.
           let z : k ≡ low = omega (arith, s.only k i l e) in
-          eqb-false (entryIn entries low) value q (rw z at e)))
+          eqb-false (entry_in entries low) value q (rw z at e)))

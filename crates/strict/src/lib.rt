@@ -1,11 +1,11 @@
 // Strict enums and strict bits (W-206): which values their entries allow.
 ghost use Rattle.std.specs.Prelude.{◌≡◌, ◌+◌, ◌≤◌, length};
-ghost use Rattle.rules.specs.Records.{amongEntries, withinMask};
-ghost use Rattle.strict.specs.Strict.{Rising, Searchable, shiftAway, allowed};
+ghost use Rattle.rules.specs.Records.{among_entries, within_mask};
+ghost use Rattle.strict.specs.Strict.{Rising, Searchable, shift_away, allowed};
 
 // A shift that leaves nothing of a number below 2^32 where the value is below the entry, and all of it elsewhere.
 fn shift_away(value: u64, entry: u64) -> u32
-    ensures { result ≡ shiftAway value entry }
+    ensures { result ≡ shift_away value entry }
 {
     if value < entry { 32 } else { 0 }
 }
@@ -15,7 +15,7 @@ fn shift_away(value: u64, entry: u64) -> u32
 // search where values come in no order.
 fn among(entries: &[u64], first: usize, count: usize, value: u64) -> bool
     requires { Rising entries.now first count × (first + count ≤ length entries.now) × (length entries.now ≤ 1024) }
-    ensures { result ≡ amongEntries entries.now first count value }
+    ensures { result ≡ among_entries entries.now first count value }
 {
     if count == 0 {
         return false;
@@ -33,7 +33,7 @@ fn among(entries: &[u64], first: usize, count: usize, value: u64) -> bool
 
 // Whether a value has no bit outside a mask.
 fn within_mask(mask: u64, value: u64) -> bool
-    ensures { result ≡ withinMask mask value }
+    ensures { result ≡ within_mask mask value }
 {
     value & mask == value
 }

@@ -1,34 +1,34 @@
 // The numbers of a type table by name: a row's kind, a, b and c, a member's ordinal and row. What a list does not have is 0, so
 // any row and any member may be asked for.
 ghost use Rattle.std.specs.Prelude.{◌≡◌, ◌+◌, ◌*◌, ◌<◌, get_or};
-ghost use Rattle.rules.specs.TypeTable.{kindIn, aIn, bIn, cIn, ordinalIn, row_in};
+ghost use Rattle.rules.specs.TypeTable.{kind_in, a_in, b_in, c_in, ordinal_in, row_in};
 
 pub fn kind_at(rows: &[u32], row: usize) -> u32
-    ensures { result ≡ kindIn rows.now row }
+    ensures { result ≡ kind_in rows.now row }
 {
     cell(rows, row, 0)
 }
 
 pub fn a_at(rows: &[u32], row: usize) -> u32
-    ensures { result ≡ aIn rows.now row }
+    ensures { result ≡ a_in rows.now row }
 {
     cell(rows, row, 1)
 }
 
 pub fn b_at(rows: &[u32], row: usize) -> u32
-    ensures { result ≡ bIn rows.now row }
+    ensures { result ≡ b_in rows.now row }
 {
     cell(rows, row, 2)
 }
 
 pub fn c_at(rows: &[u32], row: usize) -> u32
-    ensures { result ≡ cIn rows.now row }
+    ensures { result ≡ c_in rows.now row }
 {
     cell(rows, row, 3)
 }
 
 pub fn ordinal_at(members: &[u32], member: usize) -> u32
-    ensures { result ≡ ordinalIn members.now member }
+    ensures { result ≡ ordinal_in members.now member }
 {
     member_cell(members, member, 0)
 }

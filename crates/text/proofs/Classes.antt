@@ -13,7 +13,7 @@ use lib.ListN.{length, get_or}
 use Rattle.rules.specs.Refusals.{if◌then◌else◌}
 use Rattle.rules.specs.Text.{Range, range, holds}
 use Rattle.rules.proofs.Tests.{both}
-use Rattle.text.specs.Classes.{ranges, isIn, meanings, holdsClass, classes, class_of, has, Alike, ClassesRight}
+use Rattle.text.specs.Classes.{ranges, is_in, meanings, holds_class, classes, class_of, has, Alike, ClassesRight}
 
 -- ---- a test of all numbers below one, which is computed, and what it says of each
 
@@ -53,75 +53,75 @@ is_same true b is = sym is
 is_same false true is = absurd (false≢true is)
 is_same false false is = refl
 
-abbrev sameAll : List Bool → List Bool → Bool
-sameAll [] [] = true
-sameAll [] (b ∷ right) = false
-sameAll (a ∷ left) [] = false
-sameAll (a ∷ left) (b ∷ right) = same a b && sameAll left right
+abbrev same_all : List Bool → List Bool → Bool
+same_all [] [] = true
+same_all [] (b ∷ right) = false
+same_all (a ∷ left) [] = false
+same_all (a ∷ left) (b ∷ right) = same a b && same_all left right
 
-is-same-all : (left right : List Bool) → sameAll left right ≡ true → left ≡ right
-is-same-all [] [] is = refl
-is-same-all [] (b ∷ right) is = absurd (false≢true is)
-is-same-all (a ∷ left) [] is = absurd (false≢true is)
-is-same-all (a ∷ left) (b ∷ right) is =
-    let parts = both (same a b) (sameAll left right) is in
-    rw (is_same a b parts.0, is-same-all left right parts.1)
+is_same_all : (left right : List Bool) → same_all left right ≡ true → left ≡ right
+is_same_all [] [] is = refl
+is_same_all [] (b ∷ right) is = absurd (false≢true is)
+is_same_all (a ∷ left) [] is = absurd (false≢true is)
+is_same_all (a ∷ left) (b ∷ right) is =
+    let parts = both (same a b) (same_all left right) is in
+    rw (is_same a b parts.0, is_same_all left right parts.1)
 
-abbrev classBy : List (List Range) → (held : List Bool) → ℕ
-classBy [] held = 0
-classBy (m ∷ ms) held = if sameAll (map (isIn m) ranges) held then 0 else suc (classBy ms held)
+abbrev class_by : List (List Range) → (held : List Bool) → ℕ
+class_by [] held = 0
+class_by (m ∷ ms) held = if same_all (map (is_in m) ranges) held then 0 else suc (class_by ms held)
 
 class-found :
-    (ms : List (List Range)) (held : List Bool) → classBy ms held < length ms →
-    map (isIn (get_or ms (classBy ms held) [])) ranges ≡ held
+    (ms : List (List Range)) (held : List Bool) → class_by ms held < length ms →
+    map (is_in (get_or ms (class_by ms held) [])) ranges ≡ held
 class-found [] held h = absurd (omega arith)
-class-found (m ∷ ms) held h = go (sameAll (map (isIn m) ranges) held) refl h (class-found ms held)
+class-found (m ∷ ms) held h = go (same_all (map (is_in m) ranges) held) refl h (class-found ms held)
   where
-    go : (b : Bool) → sameAll (map (isIn m) ranges) held ≡ b → (if b then 0 else suc (classBy ms held)) < suc (length ms) →
-        (classBy ms held < length ms → map (isIn (get_or ms (classBy ms held) [])) ranges ≡ held) →
-        map (isIn (get_or (m ∷ ms) (if b then 0 else suc (classBy ms held)) [])) ranges ≡ held
-    go true is h later = is-same-all (map (isIn m) ranges) held is
+    go : (b : Bool) → same_all (map (is_in m) ranges) held ≡ b → (if b then 0 else suc (class_by ms held)) < suc (length ms) →
+        (class_by ms held < length ms → map (is_in (get_or ms (class_by ms held) [])) ranges ≡ held) →
+        map (is_in (get_or (m ∷ ms) (if b then 0 else suc (class_by ms held)) [])) ranges ≡ held
+    go true is h later = is_same_all (map (is_in m) ranges) held is
     go false is h later = later (omega arith)
 
 -- ---- the table
 
-heldBy : (byte : ℕ) → List Bool
-heldBy byte = map (λ r. holds r byte) ranges
+held_by : (byte : ℕ) → List Bool
+held_by byte = map (λ r. holds r byte) ranges
 
 right : (byte : ℕ) → Bool
-right byte = eqb (class_of byte) (classBy meanings (heldBy byte)) && ltb (class_of byte) 13
+right byte = eqb (class_of byte) (class_by meanings (held_by byte)) && ltb (class_of byte) 13
 
 all_right : all_below 256 right ≡ true
-unfolding classes right heldBy
+unfolding classes right held_by
 all_right = refl
 
-entry : (byte : ℕ) → byte < 256 → (class_of byte ≡ classBy meanings (heldBy byte)) × (class_of byte < 13)
+entry : (byte : ℕ) → byte < 256 → (class_of byte ≡ class_by meanings (held_by byte)) × (class_of byte < 13)
 unfolding right
 entry byte h =
-    let parts = both (eqb (class_of byte) (classBy meanings (heldBy byte))) (ltb (class_of byte) 13) (below 256 right all_right byte h) in
+    let parts = both (eqb (class_of byte) (class_by meanings (held_by byte))) (ltb (class_of byte) 13) (below 256 right all_right byte h) in
     (eqb-true _ _ parts.0, ltb-true _ _ parts.1)
 
-means : (byte : ℕ) → byte < 256 → (r : Range) → Memᴰ r ranges → holds r byte ≡ holdsClass r (class_of byte)
-unfolding heldBy
+means : (byte : ℕ) → byte < 256 → (r : Range) → Memᴰ r ranges → holds r byte ≡ holds_class r (class_of byte)
+unfolding held_by
 means byte h r m =
     let e = entry byte h in
-    let found = class-found meanings (heldBy byte) (rw e.0 at e.1) in
-    rw e.0 (sym (each_same (isIn (get_or meanings (classBy meanings (heldBy byte)) [])) (λ s. holds s byte) ranges found r m))
+    let found = class-found meanings (held_by byte) (rw e.0 at e.1) in
+    rw e.0 (sym (each_same (is_in (get_or meanings (class_by meanings (held_by byte)) [])) (λ s. holds s byte) ranges found r m))
 
-all-used : all_below 13 (has classes) ≡ true
+all_used : all_below 13 (has classes) ≡ true
 unfolding classes
-all-used = refl
+all_used = refl
 
-pub classes-right : ClassesRight
-unfolding heldBy
-classes-right = record {
+pub classes_right : ClassesRight
+unfolding held_by
+classes_right = record {
   fourteen = refl;
-  used = below 13 (has classes) all-used;
+  used = below 13 (has classes) all_used;
   known = λ byte h. (entry byte h).1;
   means = means;
-  shared = λ a b h k e r m. means a h r m ∙ ap (holdsClass r) e ∙ sym (means b k r m);
+  shared = λ a b h k e r m. means a h r m ∙ ap (holds_class r) e ∙ sym (means b k r m);
   apart = λ a b h k alike.
-      (entry a h).0 ∙ ap (classBy meanings) (all_same (λ r. holds r a) (λ r. holds r b) ranges alike) ∙ sym (entry b k).0;
+      (entry a h).0 ∙ ap (class_by meanings) (all_same (λ r. holds r a) (λ r. holds r b) ranges alike) ∙ sym (entry b k).0;
 }
 
 -- ---- numbers above all bytes
@@ -131,9 +131,9 @@ abbrev EndBelow : (number : ℕ) → List Range → Type 0
 EndBelow number [] = Unit {0}
 EndBelow number (range low high ∷ rs) = (high < number) × EndBelow number rs
 
-none-holds : (number : ℕ) (rs : List Range) → EndBelow number rs → (r : Range) → Memᴰ r rs → holds r number ≡ false
-none-holds number (range low high ∷ rs) h r (Memᴰ.head is) = rw is (simp (lt-leb number high h.0, and-false))
-none-holds number (range low high ∷ rs) h r (Memᴰ.tail m) = none-holds number rs h.1 r m
+none_holds : (number : ℕ) (rs : List Range) → EndBelow number rs → (r : Range) → Memᴰ r rs → holds r number ≡ false
+none_holds number (range low high ∷ rs) h r (Memᴰ.head is) = rw is (simp (lt-leb number high h.0, and-false))
+none_holds number (range low high ∷ rs) h r (Memᴰ.tail m) = none_holds number rs h.1 r m
 
-pub capped-alike : (number : ℕ) → 255 ≤ number → Alike number 255
-capped-alike number h r m = none-holds number ranges (omega arith) r m ∙ sym (none-holds 255 ranges (omega arith) r m)
+pub capped_alike : (number : ℕ) → 255 ≤ number → Alike number 255
+capped_alike number h r m = none_holds number ranges (omega arith) r m ∙ sym (none_holds 255 ranges (omega arith) r m)

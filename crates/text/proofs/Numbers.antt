@@ -4,22 +4,22 @@ use mathlib.Core.Path.{◌≡◌, refl, ap, ◌∙◌}
 use mathlib.Core.List.{List}
 use Prim.Native.Nat.{ℕ}
 use Rattle.rules.specs.Bytes.{zeros}
-use Rattle.rules.specs.Text.{utf8, isUtf8, brokenAt}
-use Rattle.rules.specs.Answers.{textAnswer, numbersOf, nothing}
+use Rattle.rules.specs.Text.{utf8, is_utf8, broken_at}
+use Rattle.rules.specs.Answers.{text_answer, numbers_of, nothing}
 use Rattle.text.specs.declared.Text.{Text}
 use Rattle.text.specs.declared.Text.TheVariants.{Valid, Broken}
-use Rattle.text.specs.Answers.{text_of, answer_of, textNumbers}
+use Rattle.text.specs.Answers.{text_of, answer_of, text_numbers}
 
-pub text-answer : (bytes : List ℕ) (r : Text) → text_of r ≡ utf8 bytes → answer_of r ≡ textAnswer bytes
-unfolding textAnswer isUtf8 brokenAt
-text-answer bytes Valid is = rw (← is)
-text-answer bytes (Broken start) is = rw (← is)
+pub text_answer_lem : (bytes : List ℕ) (r : Text) → text_of r ≡ utf8 bytes → answer_of r ≡ text_answer bytes
+unfolding text_answer is_utf8 broken_at
+text_answer_lem bytes Valid is = rw (← is)
+text_answer_lem bytes (Broken start) is = rw (← is)
 
-text-numbers : (r : Text) → textNumbers r ≡ numbersOf 0 nothing (answer_of r)
+text_numbers_lem : (r : Text) → text_numbers r ≡ numbers_of 0 nothing (answer_of r)
 unfolding zeros
-text-numbers Valid = refl
-text-numbers (Broken start) = refl
+text_numbers_lem Valid = refl
+text_numbers_lem (Broken start) = refl
 
 -- Both clauses of a promise follow from its first.
-pub judged : (bytes : List ℕ) (r : Text) → text_of r ≡ utf8 bytes → (text_of r ≡ utf8 bytes) × (textNumbers r ≡ numbersOf 0 nothing (textAnswer bytes))
-judged bytes r is = (is, text-numbers r ∙ ap (numbersOf 0 nothing) (text-answer bytes r is))
+pub judged : (bytes : List ℕ) (r : Text) → text_of r ≡ utf8 bytes → (text_of r ≡ utf8 bytes) × (text_numbers r ≡ numbers_of 0 nothing (text_answer bytes))
+judged bytes r is = (is, text_numbers_lem r ∙ ap (numbers_of 0 nothing) (text_answer_lem bytes r is))

@@ -2,7 +2,7 @@
 -- Assumes nothing.
 use Rattle.std.specs.Prelude.{[]}
 use Rattle.rules.specs.declared.Place.TheVariants.{Byte}
-use Rattle.rules.specs.Refusals.{fault, textNotUtf8, Answer, accepted, refused}
+use Rattle.rules.specs.Refusals.{fault, text_not_utf8, Answer, accepted, refused}
 use Rattle.rules.specs.Text as Rules
 use Rattle.rules.specs.Text.{text, broken}
 use Rattle.rules.specs.Answers.{Numbers}
@@ -16,9 +16,9 @@ text_of (Broken start) = broken start
 -- The same as an answer: 13.
 abbrev pub answer_of : Text → Answer (Unit {0})
 answer_of Valid = accepted tt
-answer_of (Broken start) = refused (fault textNotUtf8 (Byte start))
+answer_of (Broken start) = refused (fault text_not_utf8 (Byte start))
 
 -- Document 01's number, place and values of each case.
-abbrev pub textNumbers : Text → Numbers
-textNumbers Valid = record { number = 0; place = 0; values = [] }
-textNumbers (Broken start) = record { number = textNotUtf8; place = start; values = [] }
+abbrev pub text_numbers : Text → Numbers
+text_numbers Valid = record { number = 0; place = 0; values = [] }
+text_numbers (Broken start) = record { number = text_not_utf8; place = start; values = [] }

@@ -8,35 +8,35 @@ use Rattle.rules.specs.Text.{Range, range, tail, holds, Form, form, forms}
 
 -- ---- the ranges of the grammar, as the rules have it
 
-abbrev pub rangesOf : List Form → List Range
-rangesOf [] = []
-rangesOf (form lead after ∷ fs) = lead ∷ (after ++ rangesOf fs)
+abbrev pub ranges_of : List Form → List Range
+ranges_of [] = []
+ranges_of (form lead after ∷ fs) = lead ∷ (after ++ ranges_of fs)
 
 abbrev pub ranges : List Range
-ranges = rangesOf forms
+ranges = ranges_of forms
 
-abbrev pub sameRange : Range → Range → Bool
-sameRange (range low high) (range low' high') = eqb low low' && eqb high high'
+abbrev pub same_range : Range → Range → Bool
+same_range (range low high) (range low' high') = eqb low low' && eqb high high'
 
-abbrev pub isIn : List Range → Range → Bool
-isIn [] r = false
-isIn (s ∷ rs) r = sameRange r s || isIn rs r
+abbrev pub is_in : List Range → Range → Bool
+is_in [] r = false
+is_in (s ∷ rs) r = same_range r s || is_in rs r
 
 -- Each range once: there are fourteen.
 abbrev pub once : List Range → List Range
 once [] = []
-once (r ∷ rs) = if isIn rs r then once rs else (r ∷ once rs)
+once (r ∷ rs) = if is_in rs r then once rs else (r ∷ once rs)
 
 -- The ranges of a form, by its place in the grammar: 0 leads 00-7F, 1 C2-DF, 2 E0 (then A0-BF), 3 E1-EC, 4 ED (then 80-9F), 5 EE-EF,
 -- 6 F0 (then 90-BF), 7 F1-F3, 8 F4 (then 80-8F).
-abbrev pub leadOf : Form → Range
-leadOf (form lead after) = lead
+abbrev pub lead_of : Form → Range
+lead_of (form lead after) = lead
 
 abbrev pub after_of : Form → List Range
 after_of (form lead after) = after
 
 abbrev pub leading : (place : ℕ) → Range
-leading place = leadOf (get_or forms place (form tail []))
+leading place = lead_of (get_or forms place (form tail []))
 
 abbrev pub following : (place : ℕ) → List Range
 following place = after_of (get_or forms place (form tail []))
@@ -65,8 +65,8 @@ meanings =
     ∷ []
 
 -- Does a range hold the bytes of a class?
-abbrev pub holdsClass : Range → (class : ℕ) → Bool
-holdsClass r class = isIn (get_or meanings class []) r
+abbrev pub holds_class : Range → (class : ℕ) → Bool
+holds_class r class = is_in (get_or meanings class []) r
 
 -- ---- the table
 
@@ -108,7 +108,7 @@ pub record ClassesRight : Type 0 where
   pub used : (class : ℕ) → class < 13 → has classes class ≡ true
   -- what each class means, at all 256 entries
   pub known : (byte : ℕ) → byte < 256 → class_of byte < 13
-  pub means : (byte : ℕ) → byte < 256 → (r : Range) → Memᴰ r ranges → holds r byte ≡ holdsClass r (class_of byte)
+  pub means : (byte : ℕ) → byte < 256 → (r : Range) → Memᴰ r ranges → holds r byte ≡ holds_class r (class_of byte)
   -- two bytes share a class exactly when each range holds both or neither
   pub shared : (a b : ℕ) → a < 256 → b < 256 → class_of a ≡ class_of b → Alike a b
   pub apart : (a b : ℕ) → a < 256 → b < 256 → Alike a b → class_of a ≡ class_of b

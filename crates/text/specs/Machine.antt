@@ -2,9 +2,9 @@
 -- Assumes nothing.
 use Rattle.std.specs.Prelude.{◌≡◌, List, [], ◌∷◌, ℕ, ◌+◌, ◌*◌, ◌%◌, ◌≤◌, ◌<◌, length, drop, get_or}
 use Rattle.rules.specs.Refusals.{if◌then◌else◌}
-use Rattle.rules.specs.Text.{holds, forms, Led, led, notALead, leads, follows}
+use Rattle.rules.specs.Text.{holds, forms, Led, led, not_a_lead, leads, follows}
 use Rattle.text.specs.Classes.{following}
-use Rattle.text.specs.Sequences.{textFrom}
+use Rattle.text.specs.Sequences.{text_from}
 
 -- What is due in each state: between sequences; so many tails; after E0, ED, F0 and F4; never again.
 abbrev pub dues : List Led
@@ -17,11 +17,11 @@ dues =
     ∷ led (following 4)
     ∷ led (following 6)
     ∷ led (following 8)
-    ∷ notALead
+    ∷ not_a_lead
     ∷ []
 
-abbrev pub dueIn : (state : ℕ) → Led
-dueIn state = get_or dues state notALead
+abbrev pub due_in : (state : ℕ) → Led
+due_in state = get_or dues state not_a_lead
 
 -- The state after a byte of each class, from each state.
 abbrev pub nexts : List (List ℕ)
@@ -46,28 +46,28 @@ abbrev pub packed : List ℕ → ℕ
 packed [] = 0
 packed (next ∷ later) = 6 * next + 64 * packed later
 
-abbrev pub allPacked : List (List ℕ) → List ℕ
-allPacked [] = []
-allPacked (class ∷ later) = packed class ∷ allPacked later
+abbrev pub all_packed : List (List ℕ) → List ℕ
+all_packed [] = []
+all_packed (class ∷ later) = packed class ∷ all_packed later
 
 unfoldable pub steps : List ℕ
-steps = allPacked nexts
+steps = all_packed nexts
 
 -- The machine's word says what is due: its lowest six bits are six times the state.
 pub record Stands (word : ℕ) (due : Led) : Type 0 where
   pub state : ℕ
   pub known : state < 9
   pub is : word % 64 ≡ 6 * state
-  pub means : due ≡ dueIn state
+  pub means : due ≡ due_in state
 
 -- What is due after a number, by what was due before it.
-abbrev pub dueAfter : (number : ℕ) → Led → Led
-dueAfter number (led []) = leads forms number
-dueAfter number (led (r ∷ due)) = if holds r number then led due else notALead
-dueAfter number notALead = notALead
+abbrev pub due_after : (number : ℕ) → Led → Led
+due_after number (led []) = leads forms number
+due_after number (led (r ∷ due)) = if holds r number then led due else not_a_lead
+due_after number not_a_lead = not_a_lead
 
 abbrev pub StepsTo : (word number next : ℕ) → Type 0
-StepsTo word number next = (due : Led) → Stands word due → Stands next (dueAfter number due)
+StepsTo word number next = (due : Led) → Stands word due → Stands next (due_after number due)
 
 -- From a place between sequences the machine has come to another one; the sequence begun there started at `start`.
 pub record At (text : List ℕ) (from at start word : ℕ) : Type 0 where
@@ -75,7 +75,7 @@ pub record At (text : List ℕ) (from at start word : ℕ) : Type 0 where
   pub within : at ≤ length text
   pub due : Led
   pub stands : Stands word due
-  pub alike : textFrom text from ≡ follows (drop at text) start at due
+  pub alike : text_from text from ≡ follows (drop at text) start at due
 
 -- The same where it is not kept when the sequence started.
 pub record Reached (text : List ℕ) (from at word : ℕ) : Type 0 where

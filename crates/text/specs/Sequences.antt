@@ -4,11 +4,11 @@ use Rattle.std.specs.Prelude.{◌≡◌, List, [], ℕ, ◌≤◌, length, drop}
 use Rattle.rules.specs.Text.{led, Text, follows}
 
 -- What the bytes from a place on are, where the next sequence starts there.
-abbrev pub textFrom : (bytes : List ℕ) (at : ℕ) → Text
-textFrom bytes at = follows (drop at bytes) at at (led [])
+abbrev pub text_from : (bytes : List ℕ) (at : ℕ) → Text
+text_from bytes at = follows (drop at bytes) at at (led [])
 
 -- Between sequences, a text may be judged from a later place on as well.
 pub record Passes (text : List ℕ) (from next : ℕ) : Type 0 where
   pub onward : from ≤ next
   pub within : next ≤ length text
-  pub alike : textFrom text from ≡ textFrom text next
+  pub alike : text_from text from ≡ text_from text next

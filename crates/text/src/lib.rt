@@ -2,10 +2,10 @@
 // its class (W-202).
 ghost use Rattle.std.specs.Prelude.{◌≡◌, ◌≤◌, length};
 ghost use Rattle.rules.specs.Bytes.{part};
-ghost use Rattle.rules.specs.Text.{utf8, isText, isUtf8};
-ghost use Rattle.rules.specs.Answers.{textAnswer, numbersOf, nothing};
-ghost use Rattle.text.specs.Answers.{text_of, textNumbers};
-ghost use Rattle.text.specs.Sequences.{textFrom};
+ghost use Rattle.rules.specs.Text.{utf8, is_text, is_utf8};
+ghost use Rattle.rules.specs.Answers.{text_answer, numbers_of, nothing};
+ghost use Rattle.text.specs.Answers.{text_of, text_numbers};
+ghost use Rattle.text.specs.Sequences.{text_from};
 
 use crate::ascii::{past_ascii, past_ascii_numbers};
 use crate::states::{are_text, find_broken, past_sequences};
@@ -24,7 +24,7 @@ pub enum Text {
 
 // Are the `count` bytes of a message from a place on UTF-8? What would lie past the message's end is no part of it.
 pub fn is_utf8(bytes: &[u8], at: usize, count: usize) -> bool
-    ensures { result ≡ isUtf8 (part bytes.now at count) }
+    ensures { result ≡ is_utf8 (part bytes.now at count) }
 {
     match judge_part(bytes, at, count) {
         Text::Valid => true,
@@ -35,7 +35,7 @@ pub fn is_utf8(bytes: &[u8], at: usize, count: usize) -> bool
 // The same with the place, which counts from where the part starts.
 pub fn judge_part(bytes: &[u8], at: usize, count: usize) -> Text
     ensures answer { text_of result ≡ utf8 (part bytes.now at count) }
-    ensures numbers { textNumbers result ≡ numbersOf 0 nothing (textAnswer (part bytes.now at count)) }
+    ensures numbers { text_numbers result ≡ numbers_of 0 nothing (text_answer (part bytes.now at count)) }
 {
     judge(part_of(bytes, at, count))
 }
@@ -56,7 +56,7 @@ fn part_of(bytes: &[u8], at: usize, count: usize) -> &[u8]
 // UTF8-octets. Text that is ASCII alone asks for no table.
 pub fn judge(text: &[u8]) -> Text
     ensures answer { text_of result ≡ utf8 text.now }
-    ensures numbers { textNumbers result ≡ numbersOf 0 nothing (textAnswer text.now) }
+    ensures numbers { text_numbers result ≡ numbers_of 0 nothing (text_answer text.now) }
 {
     let at = past_ascii(text);
     if text.len() <= at {
@@ -68,7 +68,7 @@ pub fn judge(text: &[u8]) -> Text
 // The tables are made once. Where the first sequence starts that is not allowed is looked for only in text that has one.
 fn judge_from(text: &[u8], from: usize) -> Text
     requires { from ≤ length text.now }
-    ensures { text_of result ≡ textFrom text.now from }
+    ensures { text_of result ≡ text_from text.now from }
 {
     let class = CLASSES;
     let step = STEPS;
@@ -78,7 +78,7 @@ fn judge_from(text: &[u8], from: usize) -> Text
 
 // Are numbers UTF-8, each of them a byte? The writer judges text so, before it has written any.
 pub fn are_utf8(numbers: &[u64]) -> bool
-    ensures { result ≡ isUtf8 numbers.now }
+    ensures { result ≡ is_utf8 numbers.now }
 {
     let at = past_ascii_numbers(numbers);
     if numbers.len() <= at {
@@ -89,7 +89,7 @@ pub fn are_utf8(numbers: &[u64]) -> bool
 
 fn are_utf8_from(numbers: &[u64], from: usize) -> bool
     requires { from ≤ length numbers.now }
-    ensures { result ≡ isText (textFrom numbers.now from) }
+    ensures { result ≡ is_text (text_from numbers.now from) }
 {
     let class = CLASSES;
     let step = STEPS;

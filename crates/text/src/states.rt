@@ -1,9 +1,9 @@
 // The machine that goes over text: what is due next is a state, and the class of a byte leads from one to the next.
 ghost use Rattle.std.specs.Prelude.{◌≡◌, true, ℕ, ◌+◌, ◌%◌, ◌≤◌, eqb, length};
 ghost use Rattle.rules.specs.Refusals.{if◌then◌else◌};
-ghost use Rattle.rules.specs.Text.{isText};
+ghost use Rattle.rules.specs.Text.{is_text};
 ghost use Rattle.text.specs.Answers.{text_of};
-ghost use Rattle.text.specs.Sequences.{textFrom, Passes};
+ghost use Rattle.text.specs.Sequences.{text_from, Passes};
 ghost use Rattle.text.specs.Classes.{classes, Alike};
 ghost use Rattle.text.specs.Machine.{steps, StepsTo, Reached};
 
@@ -154,7 +154,7 @@ fn begun_at(word: u64, at: usize, begun: usize) -> usize
 // Byte by byte, with the place where each sequence starts.
 pub fn find_broken(class: &[u8; 256], step: &[u64; 13], text: &[u8], from: usize) -> Text
     requires { (class.now ≡ classes) × (step.now ≡ steps) × (from ≤ length text.now) }
-    ensures { text_of result ≡ textFrom text.now from }
+    ensures { text_of result ≡ text_from text.now from }
 {
     let mut word = BETWEEN;
     let mut at = from;
@@ -176,7 +176,7 @@ pub fn find_broken(class: &[u8; 256], step: &[u64; 13], text: &[u8], from: usize
 // Numbers: no place is asked.
 pub fn are_text(class: &[u8; 256], step: &[u64; 13], numbers: &[u64], from: usize) -> bool
     requires { (class.now ≡ classes) × (step.now ≡ steps) × (from ≤ length numbers.now) }
-    ensures { result ≡ isText (textFrom numbers.now from) }
+    ensures { result ≡ is_text (text_from numbers.now from) }
 {
     let mut word = BETWEEN;
     let mut at = from;

@@ -7,38 +7,38 @@ use Prim.Native.Nat.{ℕ, ◌+◌, ◌*◌, ◌≤◌, ◌<◌}
 use native.Mathlib.Nat.{le-mul_of_pos_right}
 use native.Mathlib.Omega.{arith}
 use lib.ListN.{length}
-use Rattle.rules.specs.TypeTable.{TypeTable, kindAt, aAt}
+use Rattle.rules.specs.TypeTable.{TypeTable, kind_at, a_at}
 use Rattle.rules.specs.Sizes.{size_of}
 use Rattle.rules.specs.Walk as W
-use Rattle.rules.specs.Sound.{widthAllowed}
+use Rattle.rules.specs.Sound.{width_allowed}
 use Rattle.layout.specs.Ready.{Ready}
-use Rattle.layout.proofs.ByKind.{number-width, size_number, width_positive}
+use Rattle.layout.proofs.ByKind.{number_width, size_number, width_positive}
 use Rattle.walk_leaves.specs.declared.cursor.Cursor.{Cursor}
 use Rattle.walk_leaves.specs.declared.cursor.Walked.TheVariants.{On}
 use Rattle.walk_leaves.specs.Doing.{message, Ask}
-use Rattle.walk_leaves.specs.Parts.{numbersAt, DidValues}
+use Rattle.walk_leaves.specs.Parts.{numbers_at, DidValues}
 use Rattle.walk.specs.Walking.{ElementsDid}
 use Rattle.walk_leaves.proofs.Steps.{did_more}
-use Rattle.walk.proofs.ByKind.{decode-number}
+use Rattle.walk.proofs.ByKind.{decode_number}
 
 module _ {t : TypeTable} {sizes alignments : List ℕ} {depth row : ℕ} (ready : Ready t sizes alignments depth row) {k width : ℕ}
-    (e : k ≡ kindAt t row) (q : k ≡ 2) (f : width ≡ aAt t row) where
-  allowed : widthAllowed width ≡ true
-  allowed = rw f (number-width t row ready.sound ready.in_use (sym e ∙ q))
+    (e : k ≡ kind_at t row) (q : k ≡ 2) (f : width ≡ a_at t row) where
+  allowed : width_allowed width ≡ true
+  allowed = rw f (number_width t row ready.sound ready.in_use (sym e ∙ q))
 
   wide : size_of t row ≡ width
   wide = size_number t row (sym e ∙ q) ∙ sym f
 
-  pub numbers-ask : {total handles at : ℕ} {c : Cursor} (count : ℕ) → Ask total handles (count * size_of t row) at c
-      → (widthAllowed width ≡ true) × (at + count * width ≤ 65536) × (c.values < 4294967296)
-  numbers-ask {total} {handles} {at} {c} count ask =
+  pub numbers_ask : {total handles at : ℕ} {c : Cursor} (count : ℕ) → Ask total handles (count * size_of t row) at c
+      → (width_allowed width ≡ true) × (at + count * width ≤ 65536) × (c.values < 4294967296)
+  numbers_ask {total} {handles} {at} {c} count ask =
       let a : Ask total handles (count * width) at c = rw wide at ask in
       (allowed, omega (arith, a.inside, a.short), omega (arith, a.small))
 
-  pub numbers-done : (bytes : List ℕ) (handles at count : ℕ) (v v' o : List ℕ) (c d : Cursor) → Ask (length bytes) handles (count * size_of t row) at c
-      → DidValues bytes v v' count at c (On d) (numbersAt width count) → ElementsDid t bytes handles depth v v' o o at c row count (On d)
-  unfolding numbersAt
-  numbers-done bytes handles at count v v' o c d a did =
+  pub numbers_done : (bytes : List ℕ) (handles at count : ℕ) (v v' o : List ℕ) (c d : Cursor) → Ask (length bytes) handles (count * size_of t row) at c
+      → DidValues bytes v v' count at c (On d) (numbers_at width count) → ElementsDid t bytes handles depth v v' o o at c row count (On d)
+  unfolding numbers_at
+  numbers_done bytes handles at count v v' o c d a did =
       let m = message t bytes handles in
-      rw (decode-number m (W.levels m depth) row (sym e ∙ q), wide, ← f)
+      rw (decode_number m (W.levels m depth) row (sym e ∙ q), wide, ← f)
       (did_more (count * width) (le-mul_of_pos_right count (width_positive width allowed)) (did t o handles a.free a.held))

@@ -1,10 +1,10 @@
 // Value walk, element walk and envelope walk: they call each other until the depth is spent. Rows of smaller numbers stand
 // in line; whatever stands out of line is one level down.
 ghost use Rattle.std.specs.Prelude.{true, ◌≡◌, ◌*◌, ◌<◌, length};
-ghost use Rattle.rules.specs.TypeTable.{typeTable, kindAt};
+ghost use Rattle.rules.specs.TypeTable.{type_table, kind_at};
 ghost use Rattle.rules.specs.Sizes.{size_of};
-ghost use Rattle.walk_leaves.specs.Doing.{Ask, cursorAt};
-ghost use Rattle.nesting.specs.Nesting.{hasParts};
+ghost use Rattle.walk_leaves.specs.Doing.{Ask, cursor_at};
+ghost use Rattle.nesting.specs.Nesting.{has_parts};
 ghost use Rattle.ordinals.specs.Ordinals.{OrdinalFits};
 ghost use Rattle.layout.specs.Ready.{Ready, Outside};
 ghost use Rattle.walk.specs.Walking.{ValueDid, ElementsDid, EnvelopesDid, ContentDid};
@@ -39,9 +39,9 @@ pub fn value(
     given: usize,
     listed: usize,
 ) -> Walked
-    requires { Ready (typeTable rows.now members.now entries.now) sizes.now alignments.now depth row
-        × Ask (length bytes.now) held (size_of (typeTable rows.now members.now entries.now) row) at (cursorAt next handles given listed) }
-    ensures { ValueDid (typeTable rows.now members.now entries.now) bytes.now held depth values.old values.new objects.old objects.new at (cursorAt next handles given listed) row result }
+    requires { Ready (type_table rows.now members.now entries.now) sizes.now alignments.now depth row
+        × Ask (length bytes.now) held (size_of (type_table rows.now members.now entries.now) row) at (cursor_at next handles given listed) }
+    ensures { ValueDid (type_table rows.now members.now entries.now) bytes.now held depth values.old values.new objects.old objects.new at (cursor_at next handles given listed) row result }
 {
     let c = Cursor {
         next,
@@ -106,8 +106,8 @@ fn elements(
     at: usize,
     c: Cursor,
 ) -> Walked
-    requires { Ready (typeTable rows.now members.now entries.now) sizes.now alignments.now depth row × Ask (length bytes.now) held (count * size_of (typeTable rows.now members.now entries.now) row) at c }
-    ensures { ElementsDid (typeTable rows.now members.now entries.now) bytes.now held depth values.old values.new objects.old objects.new at c row count result }
+    requires { Ready (type_table rows.now members.now entries.now) sizes.now alignments.now depth row × Ask (length bytes.now) held (count * size_of (type_table rows.now members.now entries.now) row) at c }
+    ensures { ElementsDid (type_table rows.now members.now entries.now) bytes.now held depth values.old values.new objects.old objects.new at c row count result }
 {
     let kind = table::kind_at(rows, row);
     if kind == 2 {
@@ -160,9 +160,9 @@ fn composite(
     at: usize,
     c: Cursor,
 ) -> Walked
-    requires { Ready (typeTable rows.now members.now entries.now) sizes.now alignments.now depth row × (hasParts rows.now row ≡ true)
-        × Ask (length bytes.now) held (size_of (typeTable rows.now members.now entries.now) row) at c }
-    ensures { ValueDid (typeTable rows.now members.now entries.now) bytes.now held depth values.old values.new objects.old objects.new at c row result }
+    requires { Ready (type_table rows.now members.now entries.now) sizes.now alignments.now depth row × (has_parts rows.now row ≡ true)
+        × Ask (length bytes.now) held (size_of (type_table rows.now members.now entries.now) row) at c }
+    ensures { ValueDid (type_table rows.now members.now entries.now) bytes.now held depth values.old values.new objects.old objects.new at c row result }
 {
     // one of bools and numbers alone goes by a plan, which can be only where its first member is one of them
     let first = table::a_at(rows, row) as usize;
@@ -273,9 +273,9 @@ fn out_of_line(
     at: usize,
     c: Cursor,
 ) -> Walked
-    requires { Ready (typeTable rows.now members.now entries.now) sizes.now alignments.now depth row × Outside (kindAt (typeTable rows.now members.now entries.now) row)
-        × Ask (length bytes.now) held (size_of (typeTable rows.now members.now entries.now) row) at c }
-    ensures { ValueDid (typeTable rows.now members.now entries.now) bytes.now held depth values.old values.new objects.old objects.new at c row result }
+    requires { Ready (type_table rows.now members.now entries.now) sizes.now alignments.now depth row × Outside (kind_at (type_table rows.now members.now entries.now) row)
+        × Ask (length bytes.now) held (size_of (type_table rows.now members.now entries.now) row) at c }
+    ensures { ValueDid (type_table rows.now members.now entries.now) bytes.now held depth values.old values.new objects.old objects.new at c row result }
 {
     let kind = table::kind_at(rows, row);
     let a = table::a_at(rows, row) as usize;
@@ -391,8 +391,8 @@ fn envelopes(
     at: usize,
     c: Cursor,
 ) -> Walked
-    requires { Ready (typeTable rows.now members.now entries.now) sizes.now alignments.now depth row × (kindAt (typeTable rows.now members.now entries.now) row ≡ 9) × Ask (length bytes.now) held (count * 8) at c }
-    ensures { EnvelopesDid (typeTable rows.now members.now entries.now) bytes.now held depth values.old values.new objects.old objects.new at c row count result }
+    requires { Ready (type_table rows.now members.now entries.now) sizes.now alignments.now depth row × (kind_at (type_table rows.now members.now entries.now) row ≡ 9) × Ask (length bytes.now) held (count * 8) at c }
+    ensures { EnvelopesDid (type_table rows.now members.now entries.now) bytes.now held depth values.old values.new objects.old objects.new at c row count result }
 {
     let first = table::a_at(rows, row) as usize;
     let known = table::b_at(rows, row) as usize;
@@ -443,8 +443,8 @@ fn content(
     at: usize,
     c: Cursor,
 ) -> Walked
-    requires { Ready (typeTable rows.now members.now entries.now) sizes.now alignments.now depth row × OrdinalFits (typeTable rows.now members.now entries.now) what × Ask (length bytes.now) held 7 at c }
-    ensures { ContentDid (typeTable rows.now members.now entries.now) bytes.now held depth values.old values.new objects.old objects.new at c row what result }
+    requires { Ready (type_table rows.now members.now entries.now) sizes.now alignments.now depth row × OrdinalFits (type_table rows.now members.now entries.now) what × Ask (length bytes.now) held 7 at c }
+    ensures { ContentDid (type_table rows.now members.now entries.now) bytes.now held depth values.old values.new objects.old objects.new at c row what result }
 {
     match what {
         Ordinal::Unknown => unknown_content(bytes, held, values, objects, depth, row, at, c),

@@ -9,33 +9,33 @@ use native.Mathlib.Omega.{arith}
 use borrow.Author.Tests.{eqb-true, le-leb}
 use lib.Dec.{eqb}
 use lib.ListN.{get_or, take, drop}
-use Rattle.rules.specs.Sizes.{Field, field, fieldsSize}
+use Rattle.rules.specs.Sizes.{Field, field, fields_size}
 use Rattle.rules.specs.Decode as D
 use Rattle.rules.specs.Decode.{Message, Decoder}
-use Rattle.rules.specs.Envelope.{decodeWord}
-use Rattle.rules.specs.Records.{readNumber}
+use Rattle.rules.specs.Envelope.{decode_word}
+use Rattle.rules.specs.Records.{read_number}
 use Rattle.rules.specs.Walk as W
-use Rattle.words.specs.Bits.{allBits}
-use Rattle.words.proofs.Bits.{part-none-above}
+use Rattle.words.specs.Bits.{all_bits}
+use Rattle.words.proofs.Bits.{part_none_above}
 use Rattle.words.proofs.Loads.{word_byte}
 use Rattle.rules.proofs.Tests.{both}
 use Rattle.plans.specs.declared.Plan.{Plan}
-use Rattle.plans.specs.Plans.{partsSize, partsFrom, parts_of}
-use Rattle.rules.specs.Sound.{widthAllowed}
+use Rattle.plans.specs.Plans.{parts_size, parts_from, parts_of}
+use Rattle.rules.specs.Sound.{width_allowed}
 use Rattle.walk_leaves.specs.declared.cursor.Cursor.{Cursor}
 use Rattle.walk_leaves.specs.declared.cursor.Walked.TheVariants.{On}
 use Rattle.walk_leaves.specs.Doing.{message, Ask}
-use Rattle.walk_leaves.specs.Parts.{boolAt, numbersAt, DidValues}
+use Rattle.walk_leaves.specs.Parts.{bool_at, numbers_at, DidValues}
 use Rattle.walk_leaves.specs.Planning.{parts_at, DidAsked}
-use Rattle.walk_leaves.proofs.Reading.{decoders-grouped}
+use Rattle.walk_leaves.proofs.Reading.{decoders_grouped}
 use Rattle.walk_leaves.proofs.Results.{then_same}
 use Rattle.walk_leaves.proofs.Steps.{did_more}
 
 -- ---- the plan
 
-pub bool-plan : (plan : Plan) → eqb plan.count 1 && eqb (get_or plan.widths 0 0) 0 && eqb (get_or plan.fills 0 0) 0 ≡ true → parts_of plan ≡ field 0 0 ∷ []
-unfolding partsFrom
-bool-plan plan e =
+pub bool_plan : (plan : Plan) → eqb plan.count 1 && eqb (get_or plan.widths 0 0) 0 && eqb (get_or plan.fills 0 0) 0 ≡ true → parts_of plan ≡ field 0 0 ∷ []
+unfolding parts_from
+bool_plan plan e =
     let filled = both _ _ e in
     let wide = both _ _ filled.0 in
     rw (eqb-true plan.count 1 wide.0, eqb-true (get_or plan.widths 0 0) 0 wide.1, eqb-true (get_or plan.fills 0 0) 0 filled.1)
@@ -44,21 +44,21 @@ bool-plan plan e =
 
 module _ (m : Message) where
   -- No fill follows a bool alone.
-  pub one_bool : parts_at (field 0 0 ∷ []) m ≡ boolAt m
+  pub one_bool : parts_at (field 0 0 ∷ []) m ≡ bool_at m
   unfolding W.fields
-  one_bool = let g = decoders-grouped m in rw (g.no-fill, g.nothing-first D.nothing, g.nothing-last 1 (boolAt m))
+  one_bool = let g = decoders_grouped m in rw (g.no_fill, g.nothing_first D.nothing, g.nothing_last 1 (bool_at m))
 
   -- A bool that is not above 1 is a number of one byte, and so is a run of them.
-  bool-number : (at n u : ℕ) → get_or m.bytes at 0 ≤ 1 → boolAt m at n u ≡ decodeWord m 1 at n u
-  unfolding boolAt decodeWord D.recordThen readNumber
-  bool-number at n u h = simp (word_byte, le-leb _ _ h)
+  bool_number : (at n u : ℕ) → get_or m.bytes at 0 ≤ 1 → bool_at m at n u ≡ decode_word m 1 at n u
+  unfolding bool_at decode_word D.record_then read_number
+  bool_number at n u h = simp (word_byte, le-leb _ _ h)
 
-  bools-numbers : (index count at n u : ℕ) → ((i : ℕ) → i < count → get_or m.bytes (at + i) 0 ≤ 1)
-      → D.elements 1 (λ i. parts_at (field 0 0 ∷ []) m) index count at n u ≡ D.elements 1 (λ i. decodeWord m 1) index count at n u
+  bools_numbers : (index count at n u : ℕ) → ((i : ℕ) → i < count → get_or m.bytes (at + i) 0 ≤ 1)
+      → D.elements 1 (λ i. parts_at (field 0 0 ∷ []) m) index count at n u ≡ D.elements 1 (λ i. decode_word m 1) index count at n u
   unfolding D.elements D.sequence
-  bools-numbers index zero at n u low = refl
-  bools-numbers index (suc count) at n u low =
-      rw (ap (λ (p : Decoder). p at n u) one_bool ∙ bool-number at n u first) (then_same (decodeWord m 1 at n u) (λ n₁ u₁. bools-numbers (suc index) count (at + 1) n₁ u₁ rest))
+  bools_numbers index zero at n u low = refl
+  bools_numbers index (suc count) at n u low =
+      rw (ap (λ (p : Decoder). p at n u) one_bool ∙ bool_number at n u first) (then_same (decode_word m 1 at n u) (λ n₁ u₁. bools_numbers (suc index) count (at + 1) n₁ u₁ rest))
     where
       first : get_or m.bytes at 0 ≤ 1
       first = rw (add-zero at) at (low 0 (omega arith))
@@ -67,27 +67,27 @@ module _ (m : Message) where
       rest i h = let e : at + suc i ≡ at + 1 + i = omega arith in rw e at (low (suc i) (omega arith))
 
 -- What is asked for, of values of one byte.
-module _ {parts : List Field} (one : parts ≡ field 0 0 ∷ []) {size : ℕ} (s : partsSize parts ≡ size) where
+module _ {parts : List Field} (one : parts ≡ field 0 0 ∷ []) {size : ℕ} (s : parts_size parts ≡ size) where
   one_byte : size ≡ 1
-  unfolding fieldsSize
+  unfolding fields_size
   one_byte = sym s ∙ rw one
 
-  pub bools-inside : {total handles at : ℕ} {c : Cursor} (count : ℕ) → Ask total handles (count * size) at c → at + count ≤ total
-  bools-inside {at = at} count a = let e : at + count * size ≡ at + count = rw one_byte (omega arith) in omega (arith, a.inside)
+  pub bools_inside : {total handles at : ℕ} {c : Cursor} (count : ℕ) → Ask total handles (count * size) at c → at + count ≤ total
+  bools_inside {at = at} count a = let e : at + count * size ≡ at + count = rw one_byte (omega arith) in omega (arith, a.inside)
 
-  pub bools-ask : {total handles at : ℕ} {c : Cursor} (count : ℕ) → Ask total handles (count * size) at c
-      → (widthAllowed 1 ≡ true) × (at + count * 1 ≤ 65536) × (c.values < 4294967296)
-  bools-ask count a = (refl, omega (arith, bools-inside count a, a.short), omega (arith, a.small))
+  pub bools_ask : {total handles at : ℕ} {c : Cursor} (count : ℕ) → Ask total handles (count * size) at c
+      → (width_allowed 1 ≡ true) × (at + count * 1 ≤ 65536) × (c.values < 4294967296)
+  bools_ask count a = (refl, omega (arith, bools_inside count a, a.short), omega (arith, a.small))
 
   -- A part of the bytes was lent, none of which is above 1.
-  pub bools-given : (bytes : List ℕ) (count at : ℕ) {v v' : List ℕ} {c d : Cursor} {bits : ℕ}
-      → bits ≡ allBits (take (at + count - at) (drop at bytes)) → bits ≤ 1
-      → DidValues bytes v v' count at c (On d) (numbersAt 1 count)
+  pub bools_given : (bytes : List ℕ) (count at : ℕ) {v v' : List ℕ} {c d : Cursor} {bits : ℕ}
+      → bits ≡ all_bits (take (at + count - at) (drop at bytes)) → bits ≤ 1
+      → DidValues bytes v v' count at c (On d) (numbers_at 1 count)
       → DidAsked bytes v v' (count * size) at c (On d) (λ m. D.elements size (λ i. parts_at parts m) 0 count)
-  unfolding numbersAt
-  bools-given bytes count at {c = c} is low did t objects handles a =
-      rw (one, one_byte, bools-numbers (message t bytes handles) 0 count at c.next c.handles each)
+  unfolding numbers_at
+  bools_given bytes count at {c = c} is low did t objects handles a =
+      rw (one, one_byte, bools_numbers (message t bytes handles) 0 count at c.next c.handles each)
       (did_more (count * 1) (omega arith) (did t objects handles a.free a.held))
     where
       each : (i : ℕ) → i < count → get_or bytes (at + i) 0 ≤ 1
-      each i h = omega (arith, is, part-none-above bytes at (at + count) i (omega arith) (bools-inside count a))
+      each i h = omega (arith, is, part_none_above bytes at (at + count) i (omega arith) (bools_inside count a))

@@ -11,54 +11,54 @@ use Rattle.rules.specs.Bytes.{word}
 use Rattle.rules.specs.Sizes.{Field, field}
 use Rattle.rules.specs.Decode as D
 use Rattle.rules.specs.Decode.{Message, Decoder}
-use Rattle.rules.specs.Envelope.{decodeWord}
-use Rattle.words.proofs.Stores.{sets-past}
-use Rattle.plans.specs.Plans.{widthSize, partsSize}
+use Rattle.rules.specs.Envelope.{decode_word}
+use Rattle.words.proofs.Stores.{sets_past}
+use Rattle.plans.specs.Plans.{width_size, parts_size}
 use Rattle.plans.proofs.ByPlan as Shared
-use Rattle.plans.proofs.Plans.{size-least}
+use Rattle.plans.proofs.Plans.{size_least}
 use Rattle.nesting.proofs.Runs.{RunLeft}
 use Rattle.walk_leaves.specs.declared.cursor.Cursor.{Cursor}
 use Rattle.walk_leaves.specs.declared.cursor.Walked.{Walked}
 use Rattle.walk_leaves.specs.declared.cursor.Walked.TheVariants.{On}
-use Rattle.walk_leaves.specs.Doing.{message, gaveOne}
-use Rattle.walk_leaves.specs.Parts.{boolAt, DidValues, DidNeither}
+use Rattle.walk_leaves.specs.Doing.{message, gave_one}
+use Rattle.walk_leaves.specs.Parts.{bool_at, DidValues, DidNeither}
 use Rattle.walk_leaves.specs.Planning.{width_at, parts_at, DidAsked}
-use Rattle.walk_leaves.proofs.InLine.{number-given}
-use Rattle.walk_leaves.proofs.Reading.{decoders-grouped, readingAny}
+use Rattle.walk_leaves.proofs.InLine.{number_given}
+use Rattle.walk_leaves.proofs.Reading.{decoders_grouped, reading_any}
 use Rattle.walk_leaves.proofs.Steps.{did_nothing, did_more}
 
 -- ---- one part, and fill
 
 module _ (bytes values : List ℕ) (width at : ℕ) (c : Cursor) where
-  pub part-bool : {values' : List ℕ} {r : Walked} → width ≡ 0 → DidValues bytes values values' 1 at c r boolAt → DidValues bytes values values' 1 at c r (λ m. width_at m width)
-  part-bool e d = rw e d
+  pub part_bool : {values' : List ℕ} {r : Walked} → width ≡ 0 → DidValues bytes values values' 1 at c r bool_at → DidValues bytes values values' 1 at c r (λ m. width_at m width)
+  part_bool e d = rw e d
 
-  pub part-number : {values' : List ℕ} {r : Walked} → (width ≡ 0 → ⊥) → DidValues bytes values values' 1 at c r (λ m. decodeWord m width)
+  pub part_number : {values' : List ℕ} {r : Walked} → (width ≡ 0 → ⊥) → DidValues bytes values values' 1 at c r (λ m. decode_word m width)
       → DidValues bytes values values' 1 at c r (λ m. width_at m width)
-  part-number n d = rw (ne_eqb width 0 n) d
+  part_number n d = rw (ne_eqb width 0 n) d
 
-  pub part-past : (width ≡ 0 → ⊥) → length values ≤ c.values → DidValues bytes values values 1 at c (On (gaveOne c)) (λ m. width_at m width)
-  part-past n h = part-number n (number-given bytes values width at c refl (sym (sets-past values c.values (word bytes at width ∷ []) h)) refl)
+  pub part_past : (width ≡ 0 → ⊥) → length values ≤ c.values → DidValues bytes values values 1 at c (On (gave_one c)) (λ m. width_at m width)
+  part_past n h = part_number n (number_given bytes values width at c refl (sym (sets_past values c.values (word bytes at width ∷ []) h)) refl)
 
 pub filled_none : (bytes : List ℕ) (at count : ℕ) (c : Cursor) → count ≡ 0 → DidNeither bytes 0 at c (On c) (λ m. D.fill m count)
 filled_none bytes at count c e t values objects handles free held =
-    rw (e, (decoders-grouped (message t bytes handles)).no-fill) (did_nothing free held)
+    rw (e, (decoders_grouped (message t bytes handles)).no_fill) (did_nothing free held)
 
 -- ---- the parts of a value, and a run of values
 
 -- What is left of them, at a place; the whole began at the cursor `c`.
 abbrev pub PartsLeft : (bytes : List ℕ) (whole : List Field) (at : ℕ) (v : List ℕ) (c : Cursor) (v' : List ℕ) (d : Cursor) (left : List Field) (place : ℕ) → Type 0
-PartsLeft bytes whole at = Shared.PartsLeft (readingAny bytes) (λ width m. width_at m width) (partsSize whole) at (parts_at whole)
+PartsLeft bytes whole at = Shared.PartsLeft (reading_any bytes) (λ width m. width_at m width) (parts_size whole) at (parts_at whole)
 
 abbrev pub ValuesLeft : (bytes : List ℕ) (parts : List Field) (size count at : ℕ) (v : List ℕ) (c : Cursor) (v' : List ℕ) (d : Cursor) (left place : ℕ) → Type 0
 ValuesLeft bytes parts size count at v c v' d left place =
-    RunLeft (readingAny bytes) (partsSize parts) (λ k. parts_at parts) (count * size) at (λ m. D.elements size (λ i. parts_at parts m) 0 count) v c v' d 0 left place
+    RunLeft (reading_any bytes) (parts_size parts) (λ k. parts_at parts) (count * size) at (λ m. D.elements size (λ i. parts_at parts m) 0 count) v c v' d 0 left place
 
 -- The part that is next, and its fill, done wherever they stand.
 module _ (bytes : List ℕ) {size at : ℕ} {whole : Message → Decoder} {v : List ℕ} {c : Cursor} {v' : List ℕ} {d : Cursor} {width fill : ℕ} {rest : List Field} {place : ℕ}
-    (p : Shared.PartsLeft (readingAny bytes) (λ width m. width_at m width) size at whole v c v' d (field width fill ∷ rest) place) where
-  pub part-given : {v'' : List ℕ} {r : Walked} → DidValues bytes v' v'' 1 place d r (λ m. width_at m width) → DidAsked bytes v' v'' (widthSize width) place d r (λ m. width_at m width)
-  part-given did t objects handles a = did_more (widthSize width) (size-least width) (did t objects handles a.free a.held)
+    (p : Shared.PartsLeft (reading_any bytes) (λ width m. width_at m width) size at whole v c v' d (field width fill ∷ rest) place) where
+  pub part_given : {v'' : List ℕ} {r : Walked} → DidValues bytes v' v'' 1 place d r (λ m. width_at m width) → DidAsked bytes v' v'' (width_size width) place d r (λ m. width_at m width)
+  part_given did t objects handles a = did_more (width_size width) (size_least width) (did t objects handles a.free a.held)
 
-  pub fill-given : {v'' : List ℕ} {stop : ℕ} {e : Cursor} {r : Walked} → DidNeither bytes 0 stop e r (λ m. D.fill m fill) → DidAsked bytes v'' v'' fill stop e r (λ m. D.fill m fill)
-  fill-given {v''} did t objects handles a = did_more fill (omega arith) (did t v'' objects handles a.free a.held)
+  pub fill_given : {v'' : List ℕ} {stop : ℕ} {e : Cursor} {r : Walked} → DidNeither bytes 0 stop e r (λ m. D.fill m fill) → DidAsked bytes v'' v'' fill stop e r (λ m. D.fill m fill)
+  fill_given {v''} did t objects handles a = did_more fill (omega arith) (did t v'' objects handles a.free a.held)

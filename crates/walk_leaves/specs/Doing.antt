@@ -3,8 +3,8 @@
 use Rattle.std.specs.Prelude.{◌≡◌, List, ℕ, ◌+◌, ◌-◌, ◌≤◌, length}
 use Rattle.std.proofs.lemmas.List.Edits.{sets}
 use Rattle.rules.specs.TypeTable.{TypeTable}
-use Rattle.rules.specs.Trace.{objectList}
-use Rattle.rules.specs.Decode.{Message, Decoded, went, stopped, traceOf}
+use Rattle.rules.specs.Trace.{object_list}
+use Rattle.rules.specs.Decode.{Message, Decoded, went, stopped, trace_of}
 use Rattle.walk_leaves.specs.declared.cursor.Cursor.{Cursor}
 use Rattle.walk_leaves.specs.declared.cursor.Walked.{Walked}
 use Rattle.walk_leaves.specs.declared.cursor.Walked.TheVariants.{On, Refused}
@@ -19,16 +19,16 @@ values_of (stopped f values trace) = values
 -- The code's answer for a result of the rules, from a cursor on.
 abbrev pub answer : Cursor → Decoded → Walked
 answer c (went next used values trace) =
-    On (record { next = next; handles = used; values = c.values + length values; objects = c.objects + length (objectList trace) })
+    On (record { next = next; handles = used; values = c.values + length values; objects = c.objects + length (object_list trace) })
 answer c (stopped f values trace) = Refused f
 
 -- A cursor of four numbers.
-abbrev pub cursorAt : (next handles given listed : ℕ) → Cursor
-cursorAt next handles given listed = record { next = next; handles = handles; values = given; objects = listed }
+abbrev pub cursor_at : (next handles given listed : ℕ) → Cursor
+cursor_at next handles given listed = record { next = next; handles = handles; values = given; objects = listed }
 
 -- A cursor after one value number.
-abbrev pub gaveOne : Cursor → Cursor
-gaveOne c = record { next = c.next; handles = c.handles; values = c.values + 1; objects = c.objects }
+abbrev pub gave_one : Cursor → Cursor
+gave_one c = record { next = c.next; handles = c.handles; values = c.values + 1; objects = c.objects }
 
 -- Numbers given, with the bytes that are not claimed yet: what is left can give no more than one number a byte.
 abbrev pub load : (total : ℕ) → Cursor → ℕ
@@ -48,7 +48,7 @@ Rises c (Refused f) = Unit {0}
 pub record Did (total handles grow : ℕ) (values values' objects objects' : List ℕ) (c : Cursor) (r : Walked) (d : Decoded) : Type 0 where
   pub says : r ≡ answer c d
   pub valued : values' ≡ sets values c.values (values_of d)
-  pub listed : objects' ≡ sets objects c.objects (objectList (traceOf d))
+  pub listed : objects' ≡ sets objects c.objects (object_list (trace_of d))
   pub within : Within total handles (load total c + grow) r
   pub rises : Rises c r
 

@@ -2,47 +2,47 @@
 -- Assumes nothing.
 use Rattle.std.specs.Prelude.{Bool, List, [], ◌∷◌, ℕ, zero, suc, ◌+◌, ◌-◌, ◌≤◌, leb, length}
 use Rattle.rules.specs.declared.Place.TheVariants.{Byte}
-use Rattle.rules.specs.Refusals.{fault, objectDoesNotFit}
+use Rattle.rules.specs.Refusals.{fault, object_does_not_fit}
 use Rattle.rules.specs.Bytes.{word, padded, ones32}
-use Rattle.rules.specs.TypeTable.{TypeTable, aIn}
+use Rattle.rules.specs.TypeTable.{TypeTable, a_in}
 use Rattle.rules.specs.Trace.{claimed}
 use Rattle.rules.specs.Decode as D
 use Rattle.rules.specs.Decode.{Message, went, Decoder}
-use Rattle.rules.specs.Records.{boolPattern, readNumber, readPresence}
-use Rattle.rules.specs.Envelope.{decodeWord}
+use Rattle.rules.specs.Records.{bool_pattern, read_number, read_presence}
+use Rattle.rules.specs.Envelope.{decode_word}
 use Rattle.rules.specs.Walk as W
-use Rattle.strict.specs.Strict.{strictPattern}
+use Rattle.strict.specs.Strict.{strict_pattern}
 use Rattle.walk_leaves.specs.declared.cursor.Cursor.{Cursor}
 use Rattle.walk_leaves.specs.declared.cursor.Walked.{Walked}
 use Rattle.walk_leaves.specs.Doing.{message, Did}
 
 -- ---- in line
 
-unfoldable pub boolAt : Message → Decoder
-boolAt m = D.recordThen 1 (readNumber m 1 boolPattern) (λ at v. D.nothing)
+unfoldable pub bool_at : Message → Decoder
+bool_at m = D.record_then 1 (read_number m 1 bool_pattern) (λ at v. D.nothing)
 
-unfoldable pub handleAt : (optional : Bool) → Message → Decoder
-handleAt optional m = D.recordThen 4 (readPresence m 4 ones32 optional) (W.afterHandle m)
+unfoldable pub handle_at : (optional : Bool) → Message → Decoder
+handle_at optional m = D.record_then 4 (read_presence m 4 ones32 optional) (W.after_handle m)
 
-unfoldable pub numbersAt : (width count : ℕ) → Message → Decoder
-numbersAt width count m = D.elements width (λ i. decodeWord m width) 0 count
+unfoldable pub numbers_at : (width count : ℕ) → Message → Decoder
+numbers_at width count m = D.elements width (λ i. decode_word m width) 0 count
 
 -- A value of a strict enum or of strict bits.
-unfoldable pub strictAt : (rows entries : List ℕ) (row : ℕ) → Message → Decoder
-strictAt rows entries row m = D.recordThen (aIn rows row) (readNumber m (aIn rows row) (strictPattern rows entries row)) (λ at v. D.nothing)
+unfoldable pub strict_at : (rows entries : List ℕ) (row : ℕ) → Message → Decoder
+strict_at rows entries row m = D.record_then (a_in rows row) (read_number m (a_in rows row) (strict_pattern rows entries row)) (λ at v. D.nothing)
 
 -- The numbers of one width that stand in line from a place on.
-unfoldable pub wordsFrom : (bytes : List ℕ) (width at count : ℕ) → List ℕ
-wordsFrom bytes width at zero = []
-wordsFrom bytes width at (suc count) = word bytes at width ∷ wordsFrom bytes width (at + width) count
+unfoldable pub words_from : (bytes : List ℕ) (width at count : ℕ) → List ℕ
+words_from bytes width at zero = []
+words_from bytes width at (suc count) = word bytes at width ∷ words_from bytes width (at + width) count
 
 -- ---- objects
 
 -- A claim alone: 6, then 7, and the object.
-unfoldable pub claimAt : (kind row size : ℕ) → Message → Decoder
-claimAt kind row size m at next used =
-    let filled = D.requireZero m (next + size) (padded size - size) (went (next + padded size) used [] (claimed kind row next size ∷ [])) in
-    D.require (leb (next + padded size) (length m.bytes)) (fault objectDoesNotFit (Byte next)) filled
+unfoldable pub claim_at : (kind row size : ℕ) → Message → Decoder
+claim_at kind row size m at next used =
+    let filled = D.require_zero m (next + size) (padded size - size) (went (next + padded size) used [] (claimed kind row next size ∷ [])) in
+    D.require (leb (next + padded size) (length m.bytes)) (fault object_does_not_fit (Byte next)) filled
 
 -- ---- functions that touch one of the lists, or none
 

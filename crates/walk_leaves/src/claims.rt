@@ -2,7 +2,7 @@
 ghost use Rattle.std.specs.Prelude.{◌≡◌, [], ◌∷◌, ◌+◌, ◌≤◌, ◌<◌, length};
 ghost use Rattle.std.proofs.lemmas.List.Edits.{sets};
 ghost use Rattle.rules.specs.Decode.{fill};
-ghost use Rattle.walk_leaves.specs.Parts.{claimAt, DidObjects, DidNeither};
+ghost use Rattle.walk_leaves.specs.Parts.{claim_at, DidObjects, DidNeither};
 
 use crate::cursor::{Cursor, Walked, refused};
 
@@ -39,7 +39,7 @@ pub fn claim(
     c: Cursor,
 ) -> Walked
     requires { (length bytes.now ≤ 65536) × (c.next ≤ length bytes.now) × (c.objects < 4294967296) × (row < 4294967296) × (size < 281474976710656) }
-    ensures { DidObjects bytes.now objects.old objects.new 4 0 c result (claimAt kind row size) }
+    ensures { DidObjects bytes.now objects.old objects.new 4 0 c result (claim_at kind row size) }
 {
     let next = c.next;
     let whole = words::padded(size);

@@ -1,7 +1,7 @@
 // Where a walk stands, and what it answers.
 ghost use Rattle.std.specs.Prelude.{◌≡◌, ◌+◌, ◌<◌, set};
 ghost use Rattle.rules.specs.Refusals.{fault};
-ghost use Rattle.walk_leaves.specs.Doing.{gaveOne};
+ghost use Rattle.walk_leaves.specs.Doing.{gave_one};
 
 use rules::{Fault, Place};
 
@@ -51,7 +51,7 @@ pub fn passed_on(answer: Walked) -> Walked
 // One value number, stored where there is room and counted all the same.
 pub fn gave(values: &mut [u64], x: u64, c: Cursor) -> Cursor
     requires { c.values < 4294967296 }
-    ensures { (values.new ≡ set values.old c.values x) × (result ≡ gaveOne c) }
+    ensures { (values.new ≡ set values.old c.values x) × (result ≡ gave_one c) }
 {
     let i = c.values;
     words::put_value(values, i, x);

@@ -2,8 +2,8 @@
 ghost use Rattle.std.specs.Prelude.{true, ◌≡◌, [], ◌∷◌, ◌+◌, ◌*◌, ◌≤◌, ◌<◌, length};
 ghost use Rattle.rules.specs.Decode.{elements, fill};
 ghost use Rattle.rules.specs.Sizes.{field};
-ghost use Rattle.plans.specs.Plans.{partsSize, partsFrom, parts_of, Runnable};
-ghost use Rattle.rules.specs.Sound.{widthAllowed};
+ghost use Rattle.plans.specs.Plans.{parts_size, parts_from, parts_of, Runnable};
+ghost use Rattle.rules.specs.Sound.{width_allowed};
 ghost use Rattle.walk_leaves.specs.Doing.{Ask};
 ghost use Rattle.walk_leaves.specs.Parts.{DidValues, DidNeither};
 ghost use Rattle.walk_leaves.specs.Planning.{width_at, parts_at, DidAsked};
@@ -15,7 +15,7 @@ use plans::Plan;
 
 // A bool, or a number, which is not looked at where the lent list has no room left.
 fn part(bytes: &[u8], values: &mut [u64], width: u32, at: usize, c: Cursor) -> Walked
-    requires { ((width ≡ 0 → ⊥) → widthAllowed width ≡ true) × (c.values < 4294967296) }
+    requires { ((width ≡ 0 → ⊥) → width_allowed width ≡ true) × (c.values < 4294967296) }
     ensures { DidValues bytes.now values.old values.new 1 at c result (λ m. width_at m width) }
 {
     if width == 0 {
@@ -54,10 +54,10 @@ fn one(
     at: usize,
     c: Cursor,
 ) -> Walked
-    requires { (count ≤ 16) × Runnable (partsFrom widths.now fills.now 0 count)
-        × Ask (length bytes.now) 64 (partsSize (partsFrom widths.now fills.now 0 count)) at c }
+    requires { (count ≤ 16) × Runnable (parts_from widths.now fills.now 0 count)
+        × Ask (length bytes.now) 64 (parts_size (parts_from widths.now fills.now 0 count)) at c }
     ensures { DidAsked bytes.now values.old values.new
-        (partsSize (partsFrom widths.now fills.now 0 count)) at c result (parts_at (partsFrom widths.now fills.now 0 count)) }
+        (parts_size (parts_from widths.now fills.now 0 count)) at c result (parts_at (parts_from widths.now fills.now 0 count)) }
 {
     let mut d = c;
     let mut place = at;
@@ -105,7 +105,7 @@ pub fn planned(
     at: usize,
     c: Cursor,
 ) -> Walked
-    requires { (plan.count ≤ 16) × Runnable (parts_of plan) × (partsSize (parts_of plan) ≡ size)
+    requires { (plan.count ≤ 16) × Runnable (parts_of plan) × (parts_size (parts_of plan) ≡ size)
         × Ask (length bytes.now) 64 (count * size) at c }
     ensures { DidAsked bytes.now values.old values.new (count * size) at c result
         (λ m. elements size (λ i. parts_at (parts_of plan) m) 0 count) }

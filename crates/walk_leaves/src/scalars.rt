@@ -2,16 +2,16 @@
 ghost use Rattle.std.specs.Prelude.{◌≡◌, true, ◌+◌, ◌*◌, ◌≤◌, ◌<◌, eqb, length};
 ghost use Rattle.std.proofs.lemmas.List.Edits.{sets};
 ghost use Rattle.rules.specs.Bytes.{word};
-ghost use Rattle.rules.specs.Envelope.{decodeWord};
-ghost use Rattle.rules.specs.Sound.{widthAllowed};
-ghost use Rattle.walk_leaves.specs.Parts.{boolAt, handleAt, numbersAt, wordsFrom, DidValues, DidHandles};
+ghost use Rattle.rules.specs.Envelope.{decode_word};
+ghost use Rattle.rules.specs.Sound.{width_allowed};
+ghost use Rattle.walk_leaves.specs.Parts.{bool_at, handle_at, numbers_at, words_from, DidValues, DidHandles};
 
 use crate::cursor::{Cursor, Walked, gave, refused};
 
 // A bool: 8.
 pub fn boolean(bytes: &[u8], values: &mut [u64], at: usize, c: Cursor) -> Walked
     requires { c.values < 4294967296 }
-    ensures { DidValues bytes.now values.old values.new 1 at c result boolAt }
+    ensures { DidValues bytes.now values.old values.new 1 at c result bool_at }
 {
     let b = words::byte_at(bytes, at);
     if 1 < b {
@@ -22,7 +22,7 @@ pub fn boolean(bytes: &[u8], values: &mut [u64], at: usize, c: Cursor) -> Walked
 
 // The number of so many bytes at a place.
 pub(crate) fn number_of(bytes: &[u8], width: u32, at: usize) -> u64
-    requires { widthAllowed width ≡ true }
+    requires { width_allowed width ≡ true }
     ensures { result ≡ word bytes.now at width }
 {
     if width == 8 {
@@ -38,8 +38,8 @@ pub(crate) fn number_of(bytes: &[u8], width: u32, at: usize) -> u64
 }
 
 pub fn number(bytes: &[u8], values: &mut [u64], width: u32, at: usize, c: Cursor) -> Walked
-    requires { (widthAllowed width ≡ true) × (c.values < 4294967296) }
-    ensures { DidValues bytes.now values.old values.new 1 at c result (λ m. decodeWord m width) }
+    requires { (width_allowed width ≡ true) × (c.values < 4294967296) }
+    ensures { DidValues bytes.now values.old values.new 1 at c result (λ m. decode_word m width) }
 {
     let x = number_of(bytes, width, at);
     Walked::On(gave(values, x, c))
@@ -55,7 +55,7 @@ pub fn handle(
     c: Cursor,
 ) -> Walked
     requires { (c.values < 4294967296) × (c.handles ≤ held) × (held ≤ 64) }
-    ensures { DidHandles bytes.now values.old values.new held 1 at c result (handleAt (eqb optional 1)) }
+    ensures { DidHandles bytes.now values.old values.new held 1 at c result (handle_at (eqb optional 1)) }
 {
     let word = words::load32(bytes, at);
     if word == 0 {
@@ -89,8 +89,8 @@ pub fn numbers(
     at: usize,
     c: Cursor,
 ) -> Cursor
-    requires { (widthAllowed width ≡ true) × (at + count * width ≤ 65536) × (c.values < 4294967296) }
-    ensures { DidValues bytes.now values.old values.new count at c (Walked.On result) (numbersAt width count) }
+    requires { (width_allowed width ≡ true) × (at + count * width ≤ 65536) × (c.values < 4294967296) }
+    ensures { DidValues bytes.now values.old values.new count at c (Walked.On result) (numbers_at width count) }
 {
     let first = c.values;
     let end = first + count;
@@ -116,8 +116,8 @@ fn store_numbers(
     at: usize,
     first: usize,
 )
-    requires { (widthAllowed width ≡ true) × (at + count * width ≤ 65536) × (first < 4294967296) }
-    ensures { values.new ≡ sets values.old first (wordsFrom bytes.now width at count) }
+    requires { (width_allowed width ≡ true) × (at + count * width ≤ 65536) × (first < 4294967296) }
+    ensures { values.new ≡ sets values.old first (words_from bytes.now width at count) }
 {
     if width != 1 {
         store_each(bytes, values, width, count, at, first);
@@ -134,8 +134,8 @@ fn store_numbers(
 
 // Each where there is room.
 fn store_each(bytes: &[u8], values: &mut [u64], width: u32, count: usize, at: usize, first: usize)
-    requires { (widthAllowed width ≡ true) × (at + count * width ≤ 65536) × (first < 4294967296) }
-    ensures { values.new ≡ sets values.old first (wordsFrom bytes.now width at count) }
+    requires { (width_allowed width ≡ true) × (at + count * width ≤ 65536) × (first < 4294967296) }
+    ensures { values.new ≡ sets values.old first (words_from bytes.now width at count) }
 {
     let end = first + count;
     let mut i = first;

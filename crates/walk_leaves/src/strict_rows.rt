@@ -1,10 +1,10 @@
 // Strict enums and strict bits (W-206).
 ghost use Rattle.std.specs.Prelude.{◌*◌, length};
 ghost use Rattle.rules.specs.Decode.{elements};
-ghost use Rattle.rules.specs.TypeTable.{aIn};
+ghost use Rattle.rules.specs.TypeTable.{a_in};
 ghost use Rattle.strict.specs.Strict.{StrictRow};
 ghost use Rattle.walk_leaves.specs.Doing.{Ask};
-ghost use Rattle.walk_leaves.specs.Parts.{strictAt};
+ghost use Rattle.walk_leaves.specs.Parts.{strict_at};
 ghost use Rattle.walk_leaves.specs.Planning.{DidAsked};
 
 use crate::cursor::{Cursor, Walked, gave, refused};
@@ -21,9 +21,9 @@ pub fn strict_values(
     at: usize,
     c: Cursor,
 ) -> Walked
-    requires { StrictRow rows.now entries.now row × Ask (length bytes.now) 64 (count * aIn rows.now row) at c }
-    ensures { DidAsked bytes.now values.old values.new (count * aIn rows.now row) at c result
-        (λ m. elements (aIn rows.now row) (λ i. strictAt rows.now entries.now row m) 0 count) }
+    requires { StrictRow rows.now entries.now row × Ask (length bytes.now) 64 (count * a_in rows.now row) at c }
+    ensures { DidAsked bytes.now values.old values.new (count * a_in rows.now row) at c result
+        (λ m. elements (a_in rows.now row) (λ i. strict_at rows.now entries.now row m) 0 count) }
 {
     let kind = table::kind_at(rows, row);
     let width = table::a_at(rows, row);

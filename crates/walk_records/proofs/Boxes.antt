@@ -9,60 +9,60 @@ use borrow.Author.Tests.{ne_eqb}
 use lib.ListN.{length, set}
 use Rattle.rules.specs.declared.Fault.{Fault}
 use Rattle.rules.specs.declared.Place.TheVariants.{Byte}
-use Rattle.rules.specs.Refusals.{fault, presenceWrong}
+use Rattle.rules.specs.Refusals.{fault, presence_wrong}
 use Rattle.rules.specs.Bytes.{word, ones64}
 use Rattle.rules.specs.TypeTable.{TypeTable}
 use Rattle.rules.specs.Sizes.{size_of}
-use Rattle.rules.specs.Trace.{boxedObject}
+use Rattle.rules.specs.Trace.{boxed_object}
 use Rattle.rules.specs.Decode as D
 use Rattle.rules.specs.Decode.{Message, got, wrong}
-use Rattle.rules.specs.Records.{presence, readPresence}
+use Rattle.rules.specs.Records.{presence, read_presence}
 use Rattle.rules.specs.Walk as W
 use Rattle.walk_leaves.specs.declared.cursor.Cursor.{Cursor}
 use Rattle.walk_records.specs.declared.records.Opened.{Opened}
 use Rattle.walk_records.specs.declared.records.Opened.TheVariants.{Closed, Refused}
-use Rattle.walk_leaves.specs.Doing.{message, gaveOne}
-use Rattle.walk_records.specs.Opening.{boxAt}
-use Rattle.walk_records.specs.Contracts.{DeeperOpens, BoxOpens}
-use Rattle.walk_leaves.proofs.Steps.{did-stop, did-one}
-use Rattle.walk_records.proofs.Openings.{record-got, record-wrong, deeper-anywhere, ask-gave, opens-put}
+use Rattle.walk_leaves.specs.Doing.{message, gave_one}
+use Rattle.walk_records.specs.Opening.{box_at}
+use Rattle.walk_records.specs.Promises.{DeeperOpens, BoxOpens}
+use Rattle.walk_leaves.proofs.Steps.{did_stop, did_one}
+use Rattle.walk_records.proofs.Openings.{record-got, record-wrong, deeper_anywhere, ask_gave, opens_put}
 
 module _ (m : Message) (at : ℕ) {says : ℕ} (said : says ≡ word m.bytes at 8) where
-  box-absent : says ≡ 0 → readPresence m 8 ones64 true at ≡ got 0
-  unfolding readPresence presence
-  box-absent h = simp (← said, h)
+  box_absent : says ≡ 0 → read_presence m 8 ones64 true at ≡ got 0
+  unfolding read_presence presence
+  box_absent h = simp (← said, h)
 
-  box-present : says ≡ ones64 → readPresence m 8 ones64 true at ≡ got 1
-  unfolding readPresence presence
-  box-present h = simp (← said, h)
+  box_present : says ≡ ones64 → read_presence m 8 ones64 true at ≡ got 1
+  unfolding read_presence presence
+  box_present h = simp (← said, h)
 
-  box-wrong : (says ≡ 0 → ⊥) → (says ≡ ones64 → ⊥) → readPresence m 8 ones64 true at ≡ wrong (fault presenceWrong (Byte at))
-  unfolding readPresence presence
-  box-wrong h k = simp (← said, ne_eqb _ _ h, ne_eqb _ _ k)
+  box_wrong : (says ≡ 0 → ⊥) → (says ≡ ones64 → ⊥) → read_presence m 8 ones64 true at ≡ wrong (fault presence_wrong (Byte at))
+  unfolding read_presence presence
+  box_wrong h k = simp (← said, ne_eqb _ _ h, ne_eqb _ _ k)
 
 module _ (bytes : List ℕ) (depth : ℕ) (values objects : List ℕ) (at : ℕ) (c : Cursor) (element size : ℕ) {says : ℕ} (said : says ≡ word bytes at 8) where
-  pub box-closed : {values' : List ℕ} {d : Cursor} → says ≡ 0 → values' ≡ set values c.values 0 → d ≡ gaveOne c
+  pub box_closed : {values' : List ℕ} {d : Cursor} → says ≡ 0 → values' ≡ set values c.values 0 → d ≡ gave_one c
       → BoxOpens bytes depth values values' objects objects at c element size (Closed d)
-  box-closed h e g t handles sized ask =
-      rw (e, g, record-got 8 _ _ at c.next c.handles (box-absent (message t bytes handles) at said h)) (did-one 0 (omega arith) ask.free ask.held)
+  box_closed h e g t handles sized ask =
+      rw (e, g, record-got 8 _ _ at c.next c.handles (box_absent (message t bytes handles) at said h)) (did_one 0 (omega arith) ask.free ask.held)
 
-  pub box-refused : {f : Fault} → (says ≡ 0 → ⊥) → (says ≡ ones64 → ⊥) → f ≡ fault presenceWrong (Byte at)
+  pub box_refused : {f : Fault} → (says ≡ 0 → ⊥) → (says ≡ ones64 → ⊥) → f ≡ fault presence_wrong (Byte at)
       → BoxOpens bytes depth values values objects objects at c element size (Refused f)
-  box-refused h k e t handles sized ask = rw (e, record-wrong 8 _ _ at c.next c.handles (box-wrong (message t bytes handles) at said h k)) did-stop
+  box_refused h k e t handles sized ask = rw (e, record-wrong 8 _ _ at c.next c.handles (box_wrong (message t bytes handles) at said h k)) did_stop
 
-  box-whole : (t : TypeTable) (handles : ℕ) → size_of t element ≡ size → says ≡ ones64
-      → boxAt (message t bytes handles) depth element at c.next c.handles
-      ≡ D.after (1 ∷ []) [] (D.oneDeeper (W.levels (message t bytes handles) depth) at
-      (λ deep below. D.claim (message t bytes handles) boxedObject element size (deep element)) at c.next c.handles)
-  box-whole t handles sized h =
+  box_whole : (t : TypeTable) (handles : ℕ) → size_of t element ≡ size → says ≡ ones64
+      → box_at (message t bytes handles) depth element at c.next c.handles
+      ≡ D.after (1 ∷ []) [] (D.one_deeper (W.levels (message t bytes handles) depth) at
+      (λ deep below. D.claim (message t bytes handles) boxed_object element size (deep element)) at c.next c.handles)
+  box_whole t handles sized h =
       let m = message t bytes handles in
-      record-got 8 _ _ at c.next c.handles (box-present m at said h)
-      ∙ rw (sized, deeper-anywhere m boxedObject element size (W.levels m depth) at (λ deep below. deep element) (at + 8) at)
+      record-got 8 _ _ at c.next c.handles (box_present m at said h)
+      ∙ rw (sized, deeper_anywhere m boxed_object element size (W.levels m depth) at (λ deep below. deep element) (at + 8) at)
 
-  pub box-opened : {values' : List ℕ} (objects' : List ℕ) {d : Cursor} (r : Opened) → says ≡ ones64 → values' ≡ set values c.values 1 → d ≡ gaveOne c
-      → DeeperOpens bytes depth objects objects' at d boxedObject element size r
+  pub box_opened : {values' : List ℕ} (objects' : List ℕ) {d : Cursor} (r : Opened) → says ≡ ones64 → values' ≡ set values c.values 1 → d ≡ gave_one c
+      → DeeperOpens bytes depth objects objects' at d boxed_object element size r
       → BoxOpens bytes depth values values' objects objects' at c element size r
-  box-opened objects' r h e g opens t handles sized ask =
+  box_opened objects' r h e g opens t handles sized ask =
       let given = set values c.values 1 in
-      rw (e, box-whole t handles sized h)
-      (opens-put (length bytes) handles values given objects objects' c _ 4 8 1 _ _ r (omega arith) (rw g at (opens t given handles (λ deep below. deep element) (ask-gave 8 ask (omega arith) g))))
+      rw (e, box_whole t handles sized h)
+      (opens_put (length bytes) handles values given objects objects' c _ 4 8 1 _ _ r (omega arith) (rw g at (opens t given handles (λ deep below. deep element) (ask_gave 8 ask (omega arith) g))))

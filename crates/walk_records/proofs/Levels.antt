@@ -5,7 +5,7 @@ use mathlib.Core.List.{List}
 use Prim.Native.Nat.{ℕ, zero, suc, ◌-◌, ◌<◌}
 use native.Mathlib.Omega.{arith}
 use Rattle.rules.specs.declared.Place.TheVariants.{Byte}
-use Rattle.rules.specs.Refusals.{fault, tooDeep}
+use Rattle.rules.specs.Refusals.{fault, too_deep}
 use Rattle.rules.specs.Decode as D
 use Rattle.rules.specs.Decode.{Message, Decoder}
 use Rattle.rules.specs.Walk as W
@@ -17,25 +17,25 @@ use Rattle.walk_records.specs.declared.records.Opened.{Opened}
 use Rattle.walk_records.specs.declared.records.Opened.TheVariants.{Open}
 use Rattle.walk_leaves.specs.Doing.{Did}
 use Rattle.walk_records.specs.Opening.{Reaches}
-use Rattle.walk_leaves.proofs.Steps.{did-stop}
+use Rattle.walk_leaves.proofs.Steps.{did_stop}
 
-pub levels-spent : (m : Message) (depth : ℕ) → depth ≡ 0 → W.levels m depth ≡ D.spent
+pub levels_spent : (m : Message) (depth : ℕ) → depth ≡ 0 → W.levels m depth ≡ D.spent
 unfolding W.levels
-levels-spent m depth e = rw e
+levels_spent m depth e = rw e
 
-level : (m : Message) (depth : ℕ) → W.levels m (suc depth) ≡ D.deeper (W.decodeRow m (W.levels m depth)) (W.levels m depth)
+level : (m : Message) (depth : ℕ) → W.levels m (suc depth) ≡ D.deeper (W.decode_row m (W.levels m depth)) (W.levels m depth)
 unfolding W.levels
 level m depth = refl
 
-pub levels-down : (m : Message) (depth : ℕ) → (depth ≡ 0 → ⊥) → W.levels m depth ≡ D.deeper (W.decodeRow m (W.levels m (depth - 1))) (W.levels m (depth - 1))
-levels-down m zero n = absurd (n refl)
-levels-down m (suc depth) n = let e : suc depth - 1 ≡ depth = omega arith in rw e (level m depth)
+pub levels_down : (m : Message) (depth : ℕ) → (depth ≡ 0 → ⊥) → W.levels m depth ≡ D.deeper (W.decode_row m (W.levels m (depth - 1))) (W.levels m (depth - 1))
+levels_down m zero n = absurd (n refl)
+levels_down m (suc depth) n = let e : suc depth - 1 ≡ depth = omega arith in rw e (level m depth)
 
 -- 5: at the record or envelope that would go deeper.
-pub too-deep : {total handles g : ℕ} {v o : List ℕ} {c : Cursor} {r : Walked} (m : Message) (depth record-at at n u : ℕ) (k : (ℕ → Decoder) → D.Deeper → Decoder)
-    → depth ≡ 0 → r ≡ Refused (fault tooDeep (Byte record-at)) → Did total handles g v v o o c r (D.oneDeeper (W.levels m depth) record-at k at n u)
-too-deep m depth record-at at n u k e y = rw (levels-spent m depth e, y) did-stop
+pub too_deep_lem : {total handles g : ℕ} {v o : List ℕ} {c : Cursor} {r : Walked} (m : Message) (depth record-at at n u : ℕ) (k : (ℕ → Decoder) → D.Deeper → Decoder)
+    → depth ≡ 0 → r ≡ Refused (fault too_deep (Byte record-at)) → Did total handles g v v o o c r (D.one_deeper (W.levels m depth) record-at k at n u)
+too_deep_lem m depth record-at at n u k e y = rw (levels_spent m depth e, y) did_stop
 
 -- Where an object is open, a level is left.
-pub level-left : (depth : ℕ) (r : Opened) {x : Opening} → Reaches depth r → r ≡ Open x → 0 < depth
-level-left depth r h e = rw e at h
+pub level_left : (depth : ℕ) (r : Opened) {x : Opening} → Reaches depth r → r ≡ Open x → 0 < depth
+level_left depth r h e = rw e at h

@@ -2,14 +2,14 @@
 -- Assumes nothing.
 use Rattle.std.specs.Prelude.{Bool, true, List, [], ◌≡◌, ℕ, zero, suc, ◌+◌, ◌-◌, ◌*◌, ◌/◌, ◌<◌, leb, eqb}
 use Rattle.rules.specs.declared.Place.TheVariants.{Byte}
-use Rattle.rules.specs.Refusals.{if◌then◌else◌, fault, byteNumberWrong, handleNumberWrong}
+use Rattle.rules.specs.Refusals.{if◌then◌else◌, fault, byte_number_wrong, handle_number_wrong}
 use Rattle.rules.specs.Bytes.{ones64}
-use Rattle.rules.specs.Trace.{vectorObject, unknownContent, unknownObject}
+use Rattle.rules.specs.Trace.{vector_object, unknown_content, unknown_object}
 use Rattle.rules.specs.TypeTable.{Content}
 use Rattle.rules.specs.Decode as D
 use Rattle.rules.specs.Decode.{Message, Decoded, went, Decoder, ReadRecord, got, wrong}
-use Rattle.rules.specs.Records.{ordinalPattern, readNumber, readPresence, readCount, readTable}
-use Rattle.rules.specs.Envelope.{decodeWord, low_word, handleNumber, contentOfEightBytes}
+use Rattle.rules.specs.Records.{ordinal_pattern, read_number, read_presence, read_count, read_table}
+use Rattle.rules.specs.Envelope.{decode_word, low_word, handle_number, content_of_eight_bytes}
 use Rattle.rules.specs.Walk as W
 use Rattle.ordinals.specs.declared.Ordinal.{Ordinal}
 use Rattle.walk_leaves.specs.declared.cursor.Cursor.{Cursor}
@@ -69,62 +69,62 @@ OpensMember total handles grow values values' objects objects' c whole left (Som
 
 module _ (m : Message) (depth : ℕ) where
   -- A vector's or a string's: `fields` walks its object, given the count, of so many bytes for each counted.
-  abbrev pub afterCount : (row size : ℕ) (fields : (count : ℕ) (rows : ℕ → Decoder) → D.Deeper → Decoder) → (at value : ℕ) → Decoder
-  afterCount row size fields at zero = D.nothing
-  afterCount row size fields at (suc count) =
-      D.oneDeeper (W.levels m depth) at (λ rows below. D.claim m vectorObject row (count * size) (fields count rows below))
+  abbrev pub after_count : (row size : ℕ) (fields : (count : ℕ) (rows : ℕ → Decoder) → D.Deeper → Decoder) → (at value : ℕ) → Decoder
+  after_count row size fields at zero = D.nothing
+  after_count row size fields at (suc count) =
+      D.one_deeper (W.levels m depth) at (λ rows below. D.claim m vector_object row (count * size) (fields count rows below))
 
-  abbrev pub countedAt : (row size largest : ℕ) (optional : Bool) → ((count : ℕ) (rows : ℕ → Decoder) → D.Deeper → Decoder) → Decoder
-  countedAt row size largest optional fields = D.recordThen 16 (readCount m optional largest) (afterCount row size fields)
+  abbrev pub counted_at : (row size largest : ℕ) (optional : Bool) → ((count : ℕ) (rows : ℕ → Decoder) → D.Deeper → Decoder) → Decoder
+  counted_at row size largest optional fields = D.record_then 16 (read_count m optional largest) (after_count row size fields)
 
-  abbrev pub vectorAt : (row element largest : ℕ) (optional : Bool) → Decoder
-  vectorAt row element largest optional = D.recordThen 16 (readCount m optional largest) (W.afterVector m (W.levels m depth) row element)
+  abbrev pub vector_at : (row element largest : ℕ) (optional : Bool) → Decoder
+  vector_at row element largest optional = D.record_then 16 (read_count m optional largest) (W.after_vector m (W.levels m depth) row element)
 
-  abbrev pub stringAt : (row largest : ℕ) (optional : Bool) → Decoder
-  stringAt row largest optional = D.recordThen 16 (readCount m optional largest) (W.afterString m (W.levels m depth) row)
+  abbrev pub string_at : (row largest : ℕ) (optional : Bool) → Decoder
+  string_at row largest optional = D.record_then 16 (read_count m optional largest) (W.after_string m (W.levels m depth) row)
 
-  abbrev pub boxAt : (element : ℕ) → Decoder
-  boxAt element = D.recordThen 8 (readPresence m 8 ones64 true) (W.afterBox m (W.levels m depth) element)
+  abbrev pub box_at : (element : ℕ) → Decoder
+  box_at element = D.record_then 8 (read_presence m 8 ones64 true) (W.after_box m (W.levels m depth) element)
 
   abbrev pub table_at : (row : ℕ) → (ℕ → Content) → Decoder
-  table_at row content = D.recordThen 16 (readTable m) (W.afterTable m (W.levels m depth) row content)
+  table_at row content = D.record_then 16 (read_table m) (W.after_table m (W.levels m depth) row content)
 
-  abbrev pub unionAt : (row : ℕ) → (ℕ → Content) → (optional flexible : Bool) → Decoder
-  unionAt row content optional flexible =
-      D.recordThen 8 (readNumber m 8 (ordinalPattern content optional flexible)) (W.afterUnion m (W.levels m depth) row content)
+  abbrev pub union_at : (row : ℕ) → (ℕ → Content) → (optional flexible : Bool) → Decoder
+  union_at row content optional flexible =
+      D.record_then 8 (read_number m 8 (ordinal_pattern content optional flexible)) (W.after_union m (W.levels m depth) row content)
 
   -- what is left once a record's object is open, one level down
-  abbrev pub elementsOf : (size element : ℕ) → Opening → Decoded
-  elementsOf size element x = D.elements size (λ i. W.decodeRow m (W.levels m (depth - 1)) element) 0 x.count x.start x.cursor.next x.cursor.handles
+  abbrev pub elements_of : (size element : ℕ) → Opening → Decoded
+  elements_of size element x = D.elements size (λ i. W.decode_row m (W.levels m (depth - 1)) element) 0 x.count x.start x.cursor.next x.cursor.handles
 
   abbrev pub value_of : (element : ℕ) → Opening → Decoded
-  value_of element x = W.decodeRow m (W.levels m (depth - 1)) element x.start x.cursor.next x.cursor.handles
+  value_of element x = W.decode_row m (W.levels m (depth - 1)) element x.start x.cursor.next x.cursor.handles
 
-  abbrev pub envelopesOf : (row : ℕ) → (ℕ → Content) → Opening → Decoded
-  envelopesOf row content x =
-      D.elements 8 (λ ordinal. D.optionalEnvelope m 8 (eqb ordinal x.count) (contentOfEightBytes m (W.levels m (depth - 1)) row (content ordinal))) 1 x.count
+  abbrev pub envelopes_of : (row : ℕ) → (ℕ → Content) → Opening → Decoded
+  envelopes_of row content x =
+      D.elements 8 (λ ordinal. D.optional_envelope m 8 (eqb ordinal x.count) (content_of_eight_bytes m (W.levels m (depth - 1)) row (content ordinal))) 1 x.count
       x.start x.cursor.next x.cursor.handles
 
 -- ---- envelopes
 
 -- Unknown content out of line, once its two numbers are given: 6, then 14, then its words.
-abbrev pub rawWords : Message → (row size number at : ℕ) → (next used : ℕ) → Decoded
-rawWords m row size number at next used =
-    D.claim m unknownObject row size
-    (D.sequence 0 (D.takeHandles m at (unknownContent size number)) (D.elements 8 (λ i. decodeWord m 8) 0 (size / 8))) at next used
+abbrev pub raw_words : Message → (row size number at : ℕ) → (next used : ℕ) → Decoded
+raw_words m row size number at next used =
+    D.claim m unknown_object row size
+    (D.sequence 0 (D.take_handles m at (unknown_content size number)) (D.elements 8 (λ i. decode_word m 8) 0 (size / 8))) at next used
 
 -- The handle number against the handles taken since: 28.
-abbrev pub handlesSealed : Message → (at used n u : ℕ) → Decoded
-handlesSealed m at used n u = D.require (eqb (handleNumber m at) (u - used)) (fault handleNumberWrong (Byte at)) (went n u [] [])
+abbrev pub handles_sealed : Message → (at used n u : ℕ) → Decoded
+handles_sealed m at used n u = D.require (eqb (handle_number m at) (u - used)) (fault handle_number_wrong (Byte at)) (went n u [] [])
 
 -- After a known payload of so many bytes: in line, its fill up to four (7); out of line, its byte number (16); then its handle number (28).
-unfoldable pub sealedAt : Message → (size at next used n u : ℕ) → Decoded
-sealedAt m size at next used n u =
-    let filled = D.and_then (D.fill m (4 - size) (at + size) n u) (λ n₁ u₁. handlesSealed m at used n₁ u₁) in
-    let covered = D.require (eqb (low_word m at) (n - next)) (fault byteNumberWrong (Byte at)) (handlesSealed m at used n u) in
+unfoldable pub sealed_at : Message → (size at next used n u : ℕ) → Decoded
+sealed_at m size at next used n u =
+    let filled = D.and_then (D.fill m (4 - size) (at + size) n u) (λ n₁ u₁. handles_sealed m at used n₁ u₁) in
+    let covered = D.require (eqb (low_word m at) (n - next)) (fault byte_number_wrong (Byte at)) (handles_sealed m at used n u) in
     if leb size 4 then filled else covered
 
 -- A known payload's value, and then the above.
-abbrev pub payloadOf : (m : Message) (depth payload size at next used : ℕ) → Opening → Decoded
-payloadOf m depth payload size at next used x =
-    D.and_then (W.decodeRow m (W.levels m (depth - 1)) payload x.start x.cursor.next x.cursor.handles) (λ n u. sealedAt m size at next used n u)
+abbrev pub payload_of : (m : Message) (depth payload size at next used : ℕ) → Opening → Decoded
+payload_of m depth payload size at next used x =
+    D.and_then (W.decode_row m (W.levels m (depth - 1)) payload x.start x.cursor.next x.cursor.handles) (λ n u. sealed_at m size at next used n u)

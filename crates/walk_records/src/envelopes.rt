@@ -1,11 +1,11 @@
 // Envelopes, and the ordinals that they stand for.
 ghost use Rattle.std.specs.Prelude.{◌≡◌, ◌+◌, ◌≤◌, ◌<◌, length};
 ghost use Rattle.walk_leaves.specs.Doing.{Ask};
-ghost use Rattle.rules.specs.Records.{isKnown};
-ghost use Rattle.ordinals.specs.Ordinals.{ordinalIs, Rising};
-ghost use Rattle.walk_records.specs.Opening.{AskBytes, Reaches, handlesSealed};
+ghost use Rattle.rules.specs.Records.{is_known};
+ghost use Rattle.ordinals.specs.Ordinals.{ordinal_is, Rising};
+ghost use Rattle.walk_records.specs.Opening.{AskBytes, Reaches, handles_sealed};
 ghost use Rattle.walk_leaves.specs.Parts.{DidNeither};
-ghost use Rattle.walk_records.specs.Contracts.{UnionOpens, MemberIs, UnknownDid, UnknownInLineDid, UnknownOutOfLineDid, RawWordsDid, TakenDid, KnownOpens, SealDid};
+ghost use Rattle.walk_records.specs.Promises.{UnionOpens, MemberIs, UnknownDid, UnknownInLineDid, UnknownOutOfLineDid, RawWordsDid, TakenDid, KnownOpens, SealDid};
 
 use crate::records::{Opened, Opening, deeper};
 use ordinals::Ordinal;
@@ -61,7 +61,7 @@ pub fn union_member(
 }
 
 fn is_known(what: Ordinal) -> bool
-    ensures { result ≡ isKnown (ordinalIs what) }
+    ensures { result ≡ is_known (ordinal_is what) }
 {
     match what {
         Ordinal::Known(_) => true,
@@ -248,7 +248,7 @@ pub fn sealed(bytes: &[u8], size: usize, at: usize, next: usize, used: usize, c:
 // The handle number against the handles taken since: 28.
 fn handles_sealed(bytes: &[u8], at: usize, used: usize, c: Cursor) -> Walked
     requires { (at < 4294967296) × (used ≤ c.handles) }
-    ensures { DidNeither bytes.now 0 at c result (λ m at. handlesSealed m at used) }
+    ensures { DidNeither bytes.now 0 at c result (λ m at. handles_sealed m at used) }
 {
     if words::load16(bytes, at + 4) as usize != c.handles - used {
         return refused(28, at);

@@ -4,7 +4,7 @@ ghost use Rattle.std.specs.Prelude.{◌≡◌, ◌≤◌, ◌<◌, length};
 ghost use Rattle.rules.specs.Bytes.{part};
 ghost use Rattle.rules.specs.Text.{utf8};
 ghost use Rattle.walk_records.specs.Opening.{AskBytes, HasCount, Reaches};
-ghost use Rattle.walk_records.specs.Contracts.{CountAt, DeeperOpens, CountedOpens, StringDid, textJudged, BoxOpens, EnvelopesOpen, TableOpens};
+ghost use Rattle.walk_records.specs.Promises.{CountAt, DeeperOpens, CountedOpens, StringDid, text_judged, BoxOpens, EnvelopesOpen, TableOpens};
 
 use rules::Fault;
 use text::Text;
@@ -146,7 +146,7 @@ pub fn string(
 
 // A text that was given is judged: 13 where its first sequence starts that is not allowed.
 fn judged_text(bytes: &[u8], start: usize, count: usize, c: Cursor) -> Walked
-    ensures { result ≡ textJudged (utf8 (part bytes.now start count)) start c }
+    ensures { result ≡ text_judged (utf8 (part bytes.now start count)) start c }
 {
     match text::judge_part(bytes, start, count) {
         Text::Valid => Walked::On(c),

@@ -4,58 +4,58 @@ use Rattle.std.proofs.Common.{◌≡◌, ℕ, zero, suc, ◌+◌, ◌*◌, ◌^�
 use native.Mathlib.Nat.{pow-succ'}
 use lib.Arith.{digits_lt}
 use lib.Seq.{take-nil}
-use Rattle.rules.specs.Bytes.{littleEndian, part, word}
+use Rattle.rules.specs.Bytes.{little_endian, part, word}
 
 -- the part's first byte
-pub part-cons : (bytes : List ℕ) (at count : ℕ) → at < length bytes → part bytes at (suc count) ≡ get_or bytes at 0 ∷ part bytes (suc at) count
+pub part_cons : (bytes : List ℕ) (at count : ℕ) → at < length bytes → part bytes at (suc count) ≡ get_or bytes at 0 ∷ part bytes (suc at) count
 unfolding part
-part-cons bytes at count h = rw (drop-cons bytes at 0)
+part_cons bytes at count h = rw (drop-cons bytes at 0)
 
 -- past the end
-pub part-past : (bytes : List ℕ) (at count : ℕ) → length bytes ≤ at → part bytes at count ≡ []
+pub part_past : (bytes : List ℕ) (at count : ℕ) → length bytes ≤ at → part bytes at count ≡ []
 unfolding part
-part-past bytes at count h = rw (drop_of_length-le, take-nil)
+part_past bytes at count h = rw (drop_of_length-le, take-nil)
 
 -- no bytes
 pub word_none : (bytes : List ℕ) (at : ℕ) → word bytes at 0 ≡ 0
-unfolding word part littleEndian
+unfolding word part little_endian
 word_none bytes at = refl
 
 -- past the end
-pub word-past : (bytes : List ℕ) (at width : ℕ) → length bytes ≤ at → word bytes at width ≡ 0
-unfolding word littleEndian
-word-past bytes at width h = rw (part-past bytes at width)
+pub word_past : (bytes : List ℕ) (at width : ℕ) → length bytes ≤ at → word bytes at width ≡ 0
+unfolding word little_endian
+word_past bytes at width h = rw (part_past bytes at width)
 
 -- one byte more
-pub word-step : (bytes : List ℕ) (at width : ℕ) → word bytes at (suc width) ≡ get_or bytes at 0 + 256 * word bytes (suc at) width
-unfolding word part littleEndian
-word-step [] zero width = rw take-nil
-word-step [] (suc at) width = rw take-nil
-word-step (byte ∷ bytes) zero width = refl
-word-step (byte ∷ bytes) (suc at) width = word-step bytes at width
+pub word_step : (bytes : List ℕ) (at width : ℕ) → word bytes at (suc width) ≡ get_or bytes at 0 + 256 * word bytes (suc at) width
+unfolding word part little_endian
+word_step [] zero width = rw take-nil
+word_step [] (suc at) width = rw take-nil
+word_step (byte ∷ bytes) zero width = refl
+word_step (byte ∷ bytes) (suc at) width = word_step bytes at width
 
 -- a word of one byte
 pub word_byte : (bytes : List ℕ) (at : ℕ) → word bytes at 1 ≡ get_or bytes at 0
-word_byte bytes at = omega (arith, word-step bytes at 0, word_none bytes (suc at))
+word_byte bytes at = omega (arith, word_step bytes at 0, word_none bytes (suc at))
 
 -- a word in two parts
-pub word-parts : (bytes : List ℕ) (at low high : ℕ) → word bytes at (low + high) ≡ word bytes at low + 256 ^ low * word bytes (at + low) high
-word-parts bytes at zero high = rw (zero-add, add-zero, word_none) (omega arith)
-word-parts bytes at (suc low) high =
-    rw (suc-add, word-step bytes at (low + high), word-step bytes at low, word-parts bytes (suc at) low high, add-suc, suc-add, pow-succ', mul-add, mul_assoc, add_assoc)
+pub word_parts : (bytes : List ℕ) (at low high : ℕ) → word bytes at (low + high) ≡ word bytes at low + 256 ^ low * word bytes (at + low) high
+word_parts bytes at zero high = rw (zero-add, add-zero, word_none) (omega arith)
+word_parts bytes at (suc low) high =
+    rw (suc-add, word_step bytes at (low + high), word_step bytes at low, word_parts bytes (suc at) low high, add-suc, suc-add, pow-succ', mul-add, mul_assoc, add_assoc)
 
 -- a word made of what stands in its two parts,
-pub word-of-parts : (bytes : List ℕ) (at low high : ℕ) {l h : ℕ} → l ≡ word bytes at low → h ≡ word bytes (at + low) high
+pub word_of_parts : (bytes : List ℕ) (at low high : ℕ) {l h : ℕ} → l ≡ word bytes at low → h ≡ word bytes (at + low) high
     → l + h * 256 ^ low ≡ word bytes at (low + high)
-word-of-parts bytes at low high p q = rw (p, q, word-parts, mul_comm (256 ^ low))
+word_of_parts bytes at low high p q = rw (p, q, word_parts, mul_comm (256 ^ low))
 
 -- and one whose upper part is past the end
-pub word-clipped : (bytes : List ℕ) (at low high : ℕ) {l : ℕ} → length bytes ≤ at + low → l ≡ word bytes at low → l ≡ word bytes at (low + high)
-word-clipped bytes at low high h p = rw (p, word-parts, word-past bytes (at + low) high, mul-zero, add-zero)
+pub word_clipped : (bytes : List ℕ) (at low high : ℕ) {l : ℕ} → length bytes ≤ at + low → l ≡ word bytes at low → l ≡ word bytes at (low + high)
+word_clipped bytes at low high h p = rw (p, word_parts, word_past bytes (at + low) high, mul-zero, add-zero)
 
 -- a word of a slice of bytes fits its width
 pub word_below : (bytes : List ℕ) → ((i : ℕ) → Fits w8 (get_or bytes i 0)) → (at width : ℕ) → word bytes at width < 256 ^ width
 word_below bytes known at zero = rw word_none (omega arith)
 word_below bytes known at (suc width) =
     let byte : get_or bytes at 0 < 256 = (known at).fits in
-    rw (word-step, add_comm, mul_comm 256, pow-suc) (digits_lt (word_below bytes known (suc at) width) byte)
+    rw (word_step, add_comm, mul_comm 256, pow-suc) (digits_lt (word_below bytes known (suc at) width) byte)

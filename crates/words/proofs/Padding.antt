@@ -3,6 +3,6 @@
 use Rattle.std.proofs.Common.{◌≡◌, ℕ, ◌%◌, ◌^◌, ◌<◌, arith}
 use Rattle.rules.specs.Bytes.{round_up, padded}
 
-pub padded-fits : {n r : ℕ} → n < 281474976710656 → r ≡ padded n % 2 ^ 64 → r ≡ padded n
+pub padded_fits : {n r : ℕ} → n < 281474976710656 → r ≡ padded n % 2 ^ 64 → r ≡ padded n
 unfolding padded round_up
-padded-fits small is = omega arith
+padded_fits small is = omega arith

@@ -4,8 +4,8 @@ use Rattle.std.proofs.Common.{◌≡◌, ℕ, ◌+◌, ◌-◌, ◌<◌, ◌≤�
 use borrow.Author.Tests.{lt-leb}
 
 -- the same test, without a sum that could wrap
-pub leb-left : (total at count : ℕ) → at ≤ total → leb count (total - at) ≡ leb (at + count) total
-leb-left total at count h = go (leb count (total - at)) refl
+pub leb_left : (total at count : ℕ) → at ≤ total → leb count (total - at) ≡ leb (at + count) total
+leb_left total at count h = go (leb count (total - at)) refl
   where
     go : (b : Bool) → leb count (total - at) ≡ b → leb count (total - at) ≡ leb (at + count) total
     go true e = let k = leb-true count (total - at) e in e ∙ sym (le-leb (at + count) total (omega arith))

@@ -8,71 +8,71 @@ use Rattle.rules.specs.Bytes.{bytes_of}
 
 module _ {ℓ} {A : Type ℓ} where
   -- two runs, one after the other
-  pub sets-append : (list : List A) (at : ℕ) (first second : List A)
+  pub sets_append : (list : List A) (at : ℕ) (first second : List A)
       → sets (sets list at first) (at + length first) second ≡ sets list at (first ++ second)
-  sets-append list at [] second = rw add-zero
-  sets-append list at (x ∷ first) second =
+  sets_append list at [] second = rw add-zero
+  sets_append list at (x ∷ first) second =
       let e : at + suc (length first) ≡ suc at + length first = omega arith in
-      rw e (sets-append (set list at x) (suc at) first second)
+      rw e (sets_append (set list at x) (suc at) first second)
 
   -- a store and a run that lies after it
-  set-sets : (list : List A) (at : ℕ) (x : A) (later : ℕ) (run : List A) → at < later
+  set_sets : (list : List A) (at : ℕ) (x : A) (later : ℕ) (run : List A) → at < later
       → sets (set list at x) later run ≡ set (sets list later run) at x
-  set-sets list at x later [] h = refl
-  set-sets list at x later (y ∷ run) h =
+  set_sets list at x later [] h = refl
+  set_sets list at x later (y ∷ run) h =
       ap (λ (l : List A). sets l (suc later) run) (set_comm list at later x y (omega arith))
-      ∙ set-sets (set list later y) at x (suc later) run (omega arith)
+      ∙ set_sets (set list later y) at x (suc later) run (omega arith)
 
   -- two runs that do not meet, in either order
-  pub sets-comm : (list : List A) (at : ℕ) (first : List A) (later : ℕ) (second : List A) → at + length first ≤ later
+  pub sets_comm : (list : List A) (at : ℕ) (first : List A) (later : ℕ) (second : List A) → at + length first ≤ later
       → sets (sets list at first) later second ≡ sets (sets list later second) at first
-  sets-comm list at [] later second h = refl
-  sets-comm list at (x ∷ first) later second h =
-      sets-comm (set list at x) (suc at) first later second (omega arith)
-      ∙ ap (λ (l : List A). sets l (suc at) first) (set-sets list at x later second (omega arith))
+  sets_comm list at [] later second h = refl
+  sets_comm list at (x ∷ first) later second h =
+      sets_comm (set list at x) (suc at) first later second (omega arith)
+      ∙ ap (λ (l : List A). sets l (suc at) first) (set_sets list at x later second (omega arith))
 
   -- a run past the end
-  pub sets-past : (list : List A) (at : ℕ) (run : List A) → length list ≤ at → sets list at run ≡ list
-  sets-past list at [] h = refl
-  sets-past list at (x ∷ run) h = rw (set_out list at x) (sets-past list (suc at) run (omega arith))
+  pub sets_past : (list : List A) (at : ℕ) (run : List A) → length list ≤ at → sets list at run ≡ list
+  sets_past list at [] h = refl
+  sets_past list at (x ∷ run) h = rw (set_out list at x) (sets_past list (suc at) run (omega arith))
 
-pub length-bytesOf : (width value : ℕ) → length (bytes_of width value) ≡ width
+pub length_bytes_of : (width value : ℕ) → length (bytes_of width value) ≡ width
 unfolding bytes_of
-length-bytesOf zero value = refl
-length-bytesOf (suc width) value = ap suc (length-bytesOf width (value / 256))
+length_bytes_of zero value = refl
+length_bytes_of (suc width) value = ap suc (length_bytes_of width (value / 256))
 
 -- a byte is its own word
-pub bytesOf-byte : (value : ℕ) → value < 256 → bytes_of 1 value ≡ value ∷ []
+pub bytes_of_byte : (value : ℕ) → value < 256 → bytes_of 1 value ≡ value ∷ []
 unfolding bytes_of
-bytesOf-byte value h = rw mod-eq_of_lt
+bytes_of_byte value h = rw mod-eq_of_lt
 
 -- the digits to base 256 of the lower part
 lower : (width value : ℕ) → value % 256 ^ suc width ≡ value / 256 % 256 ^ width * 256 + value % 256
 lower width value = rw pow-suc (mod-mul value (one-le-pow width 256 (omega arith)) (omega arith))
 
-pub bytesOf-lower : (width value : ℕ) → bytes_of width (value % 256 ^ width) ≡ bytes_of width value
+pub bytes_of_lower : (width value : ℕ) → bytes_of width (value % 256 ^ width) ≡ bytes_of width value
 unfolding bytes_of
-bytesOf-lower zero value = refl
-bytesOf-lower (suc width) value =
+bytes_of_lower zero value = refl
+bytes_of_lower (suc width) value =
     let h : value % 256 < 256 = omega arith in
-    rw (lower width value, digits_mod (value / 256 % 256 ^ width) h, digits_div (value / 256 % 256 ^ width) h, bytesOf-lower width (value / 256))
+    rw (lower width value, digits_mod (value / 256 % 256 ^ width) h, digits_div (value / 256 % 256 ^ width) h, bytes_of_lower width (value / 256))
 
 -- the bytes of a word in two parts
-pub bytesOf-parts : (low high value : ℕ) → bytes_of (low + high) value ≡ bytes_of low value ++ bytes_of high (value / 256 ^ low)
+pub bytes_of_parts : (low high value : ℕ) → bytes_of (low + high) value ≡ bytes_of low value ++ bytes_of high (value / 256 ^ low)
 unfolding bytes_of
-bytesOf-parts zero high value = rw (zero-add, div-one)
-bytesOf-parts (suc low) high value = rw (suc-add, bytesOf-parts low high (value / 256), div-div-eq-div-mul, pow-succ')
+bytes_of_parts zero high value = rw (zero-add, div-one)
+bytes_of_parts (suc low) high value = rw (suc-add, bytes_of_parts low high (value / 256), div-div-eq-div-mul, pow-succ')
 
 -- a word stored in two parts,
-pub store-parts : (list : List ℕ) (at low high value : ℕ) {half whole : List ℕ} → half ≡ sets list at (bytes_of low (value % 256 ^ low))
+pub store_parts : (list : List ℕ) (at low high value : ℕ) {half whole : List ℕ} → half ≡ sets list at (bytes_of low (value % 256 ^ low))
     → whole ≡ sets half (at + low) (bytes_of high (value / 256 ^ low)) → whole ≡ sets list at (bytes_of (low + high) value)
-store-parts list at low high value p q =
-    let e = rw length-bytesOf at (sets-append list at (bytes_of low value) (bytes_of high (value / 256 ^ low))) in
-    rw (q, p, bytesOf-lower, bytesOf-parts) e
+store_parts list at low high value p q =
+    let e = rw length_bytes_of at (sets_append list at (bytes_of low value) (bytes_of high (value / 256 ^ low))) in
+    rw (q, p, bytes_of_lower, bytes_of_parts) e
 
 -- and one whose upper part is past the end
-pub store-clipped : (list : List ℕ) (at low high value : ℕ) {half : List ℕ} → length list ≤ at + low
+pub store_clipped : (list : List ℕ) (at low high value : ℕ) {half : List ℕ} → length list ≤ at + low
     → half ≡ sets list at (bytes_of low (value % 256 ^ low)) → half ≡ sets list at (bytes_of (low + high) value)
-store-clipped list at low high value {half} h p =
+store_clipped list at low high value {half} h p =
     let k : length half ≤ at + low = rw (p, length-sets) h in
-    store-parts list at low high value p (sym (sets-past half (at + low) (bytes_of high (value / 256 ^ low)) k))
+    store_parts list at low high value p (sym (sets_past half (at + low) (bytes_of high (value / 256 ^ low)) k))

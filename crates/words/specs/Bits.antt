@@ -8,5 +8,5 @@ bits_of numbers zero = 0
 bits_of numbers (suc count) = bit_or (bits_of numbers count) (slice_index numbers count)
 
 -- of all of them.
-abbrev pub allBits : List ℕ → ℕ
-allBits numbers = bits_of numbers (length numbers)
+abbrev pub all_bits : List ℕ → ℕ
+all_bits numbers = bits_of numbers (length numbers)

@@ -3,7 +3,7 @@
 ghost use Rattle.std.specs.Prelude.{◌≡◌, ◌+◌, ◌%◌, ◌^◌, ◌≤◌, length, nat_le, slice_index, slice_set};
 ghost use Rattle.std.proofs.lemmas.List.Edits.{sets};
 ghost use Rattle.rules.specs.Bytes.{word, bytes_of, part, pattern32, signed32, leading_zeros, round_up, padded};
-ghost use Rattle.words.specs.Bits.{allBits};
+ghost use Rattle.words.specs.Bits.{all_bits};
 
 // ---- elements
 
@@ -220,7 +220,7 @@ pub fn pattern32(number: i32) -> u32
 // All the bits of bytes, and of numbers: none of them is above it. There is no branch for each, so that the loop is compiled to
 // vector instructions.
 pub fn byte_bits(bytes: &[u8]) -> u8
-    ensures { result ≡ allBits bytes.now }
+    ensures { result ≡ all_bits bytes.now }
 {
     let mut bits: u8 = 0;
     let mut i = 0;
@@ -232,7 +232,7 @@ pub fn byte_bits(bytes: &[u8]) -> u8
 }
 
 pub fn value_bits(values: &[u64]) -> u64
-    ensures { result ≡ allBits values.now }
+    ensures { result ≡ all_bits values.now }
 {
     let mut bits: u64 = 0;
     let mut i = 0;

@@ -9,7 +9,7 @@ use lib.Seq.{sets}
 use Rattle.rules.specs.declared.Fault.{Fault}
 use Rattle.rules.specs.Encode as E
 use Rattle.rules.specs.Encode.{Encoded, wrote, cannot, Encoder}
-use Rattle.words.proofs.Stores.{sets-append, sets-comm}
+use Rattle.words.proofs.Stores.{sets_append, sets_comm}
 use Rattle.write_leaves.specs.declared.cursor.Cursor.{Cursor}
 use Rattle.write_leaves.specs.declared.cursor.Wrote.{Wrote}
 use Rattle.write_leaves.specs.declared.cursor.Wrote.TheVariants.{On, Refused}
@@ -20,9 +20,9 @@ use Rattle.write_leaves.proofs.Kept.{kept_sets, kept_then}
 both_stored : (out : List ℕ) (at free : ℕ) (i o j p : List ℕ) → at + (length i + length j) ≤ free
     → sets (sets (sets (sets out at i) free o) (at + length i) j) (free + length o) p ≡ sets (sets out at (i ++ j)) free (o ++ p)
 both_stored out at free i o j p h =
-    ap (λ (l : List ℕ). sets l (free + length o) p) (sym (sets-comm (sets out at i) (at + length i) j free o (omega arith)))
-    ∙ ap (λ (l : List ℕ). sets (sets l free o) (free + length o) p) (sets-append out at i j)
-    ∙ sets-append (sets out at (i ++ j)) free o p
+    ap (λ (l : List ℕ). sets l (free + length o) p) (sym (sets_comm (sets out at i) (at + length i) j free o (omega arith)))
+    ∙ ap (λ (l : List ℕ). sets (sets l free o) (free + length o) p) (sets_append out at i j)
+    ∙ sets_append (sets out at (i ++ j)) free o p
 
 -- A part that was written, and then the rest.
 pub put_then : {values out out' out'' : List ℕ} {first second at base : ℕ} {c d : Cursor} {r : Wrote} {e : Encoded} (k : Encoder)
@@ -61,9 +61,9 @@ put_then {values} {out} {out'} {out''} {first} {second} {at} {base} {c} {d} {r} 
     go (cannot number left) a s f = absurd (let w : ◌≡◌ {A = ℕ} 0 1 = cc in omega arith)
 
 -- A part that was refused, whatever was to follow.
-pub put-halt : {values out out' : List ℕ} {size at base : ℕ} (whole : ℕ) {c : Cursor} {f : Fault} {e : Encoded} (k : Encoder)
+pub put_halt : {values out out' : List ℕ} {size at base : ℕ} (whole : ℕ) {c : Cursor} {f : Fault} {e : Encoded} (k : Encoder)
     → Put values out out' size at base c (Refused f) e → Put values out out' whole at base c (Refused f) (E.and_then e k)
-put-halt {values} {out} {out'} {size} {at} {base} whole {c} {f} {e} k p = go e p.says p.stored
+put_halt {values} {out} {out'} {size} {at} {base} whole {c} {f} {e} k p = go e p.says p.stored
   where
     go : (e : Encoded) → Refused f ≡ answer (length values) e → Stored out out' at (c.next - base) e → Put values out out' whole at base c (Refused f) (E.and_then e k)
     go (wrote i o n u rest) a s = absurd (let w : ◌≡◌ {A = ℕ} 0 1 = cc in omega arith)

@@ -4,20 +4,20 @@ use Rattle.std.specs.Prelude.{List, ℕ, eqb}
 use Rattle.rules.specs.Refusals.{if◌then◌else◌}
 use Rattle.rules.specs.Sizes.{Field}
 use Rattle.rules.specs.Encode.{Encoder}
-use Rattle.rules.specs.Envelope.{encodeWord}
+use Rattle.rules.specs.Envelope.{encode_word}
 use Rattle.rules.specs.Writer as R
 use Rattle.write_leaves.specs.declared.cursor.Cursor.{Cursor}
 use Rattle.write_leaves.specs.declared.cursor.Wrote.{Wrote}
 use Rattle.write_leaves.specs.Putting.{Puts, Ask}
-use Rattle.write_leaves.specs.InLine.{boolAs}
+use Rattle.write_leaves.specs.InLine.{bool_as}
 
 -- A bool, or a number of a width.
-abbrev pub widthAs : (width : ℕ) → Encoder
-widthAs width = if eqb width 0 then boolAs else encodeWord width
+abbrev pub width_as : (width : ℕ) → Encoder
+width_as width = if eqb width 0 then bool_as else encode_word width
 
 -- The parts of a plan, with the fill after each.
-abbrev pub partsAs : List Field → Encoder
-partsAs parts = R.fields widthAs parts
+abbrev pub parts_as : List Field → Encoder
+parts_as parts = R.fields width_as parts
 
 -- Put at any place of a message that it is asked for at.
 abbrev pub PutAsked : (values out out' : List ℕ) (size at : ℕ) (c : Cursor) (r : Wrote) → Encoder → Type 0

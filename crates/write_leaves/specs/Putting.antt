@@ -4,7 +4,7 @@ use Rattle.std.specs.Prelude.{List, ◌≡◌, ℕ, ◌+◌, ◌-◌, ◌≤◌,
 use Rattle.std.proofs.lemmas.List.Edits.{sets}
 use Rattle.rules.specs.declared.Place.TheVariants.{Index}
 use Rattle.rules.specs.Refusals.{fault}
-use Rattle.rules.specs.Encode.{Encoded, wrote, cannot, Encoder, takeHandles}
+use Rattle.rules.specs.Encode.{Encoded, wrote, cannot, Encoder, take_handles}
 use Rattle.write_leaves.specs.declared.cursor.Cursor.{Cursor}
 use Rattle.write_leaves.specs.declared.cursor.Wrote.{Wrote}
 use Rattle.write_leaves.specs.declared.cursor.Wrote.TheVariants.{On, Refused}
@@ -54,12 +54,12 @@ abbrev pub PutsInLine : (values out out' : List ℕ) (size at : ℕ) (c : Cursor
 PutsInLine values out out' size at c r part = (base : ℕ) → Puts values out out' size at base c r part
 
 -- A cursor of three numbers.
-abbrev pub cursorAt : (next handles index : ℕ) → Cursor
-cursorAt next handles index = record { next = next; handles = handles; index = index }
+abbrev pub cursor_at : (next handles index : ℕ) → Cursor
+cursor_at next handles index = record { next = next; handles = handles; index = index }
 
 -- The cursor after one more number.
-abbrev pub tookOne : Cursor → Cursor
-tookOne c = record { next = c.next; handles = c.handles; index = c.index + 1 }
+abbrev pub took_one : Cursor → Cursor
+took_one c = record { next = c.next; handles = c.handles; index = c.index + 1 }
 
 -- Where the writer may stand.
 pub record Stands (values : List ℕ) (c : Cursor) : Type 0 where
@@ -69,7 +69,7 @@ pub record Stands (values : List ℕ) (c : Cursor) : Type 0 where
 
 -- So many handles are taken: the output is left alone.
 abbrev pub HandlesTaken : (count : ℕ) (c : Cursor) → Wrote → Type 0
-HandlesTaken count c r = (values out : List ℕ) (at base : ℕ) → Stands values c → Puts values out out 0 at base c r (takeHandles count)
+HandlesTaken count c r = (values out : List ℕ) (at base : ℕ) → Stands values c → Puts values out out 0 at base c r (take_handles count)
 
 -- What a part is asked for: its bytes in line end before the next free one.
 pub record Ask (values : List ℕ) (size at base : ℕ) (c : Cursor) : Type 0 where

@@ -3,8 +3,8 @@ ghost use Rattle.std.specs.Prelude.{◌≡◌, List, ◌+◌, ◌≤◌, ◌<◌
 ghost use Rattle.std.proofs.lemmas.List.Edits.{sets};
 ghost use Rattle.rules.specs.Refusals.{fault};
 ghost use Rattle.rules.specs.Bytes.{zeros};
-ghost use Rattle.rules.specs.Encode.{takeHandles};
-ghost use Rattle.write_leaves.specs.Putting.{tookOne, Stands, HandlesTaken};
+ghost use Rattle.rules.specs.Encode.{take_handles};
+ghost use Rattle.write_leaves.specs.Putting.{took_one, Stands, HandlesTaken};
 
 use rules::{Fault, Place};
 
@@ -53,7 +53,7 @@ pub fn passed_on(answer: Wrote) -> Wrote
 // The cursor after one more number.
 pub fn took(c: Cursor) -> Cursor
     requires { c.index < 1152921504606846976 }
-    ensures { result ≡ tookOne c }
+    ensures { result ≡ took_one c }
 {
     Cursor {
         next: c.next,

@@ -3,10 +3,10 @@ ghost use Rattle.std.specs.Prelude.{true, ◌≡◌, ◌+◌, ◌*◌, ◌^◌, 
 ghost use Rattle.std.proofs.lemmas.List.Edits.{sets};
 ghost use Rattle.rules.specs.Bytes.{bytes_of, zeros};
 ghost use Rattle.rules.specs.Encode.{elements};
-ghost use Rattle.plans.specs.Plans.{widthSize, partsSize, partsFrom, parts_of, Runnable};
-ghost use Rattle.rules.specs.Sound.{widthAllowed};
+ghost use Rattle.plans.specs.Plans.{width_size, parts_size, parts_from, parts_of, Runnable};
+ghost use Rattle.rules.specs.Sound.{width_allowed};
 ghost use Rattle.write_leaves.specs.Putting.{Stands, Ask, PutsInLine};
-ghost use Rattle.write_leaves.specs.Planning.{widthAs, partsAs, PutAsked};
+ghost use Rattle.write_leaves.specs.Planning.{width_as, parts_as, PutAsked};
 
 use crate::cursor::{Cursor, Wrote, put_zeros, refused, took};
 use crate::scalars::{boolean, largest, put_word};
@@ -14,7 +14,7 @@ use plans::Plan;
 
 // A number of a width, and fill: past the output's end, where the pass that measures stores all, nothing is looked at.
 pub(crate) fn put_number(out: &mut [u8], width: u32, at: usize, v: u64)
-    requires { (widthAllowed width ≡ true) × (v < 256 ^ width) }
+    requires { (width_allowed width ≡ true) × (v < 256 ^ width) }
     ensures { out.new ≡ sets out.old at (bytes_of width v) }
 {
     if at < out.len() {
@@ -33,8 +33,8 @@ fn put_fill(out: &mut [u8], at: usize, count: usize)
 
 // A bool or a number: 26.
 fn part(values: &[u64], out: &mut [u8], width: u32, at: usize, c: Cursor) -> Wrote
-    requires { ((width ≡ 0 → ⊥) → widthAllowed width ≡ true) × Stands values.now c }
-    ensures { PutsInLine values.now out.old out.new (widthSize width) at c result (widthAs width) }
+    requires { ((width ≡ 0 → ⊥) → width_allowed width ≡ true) × Stands values.now c }
+    ensures { PutsInLine values.now out.old out.new (width_size width) at c result (width_as width) }
 {
     if width == 0 {
         return boolean(values, out, at, c);
@@ -60,10 +60,10 @@ fn one(
     at: usize,
     c: Cursor,
 ) -> Wrote
-    requires { (count ≤ 16) × Runnable (partsFrom widths.now fills.now 0 count)
-        × Ask values.now (partsSize (partsFrom widths.now fills.now 0 count)) at 0 c }
+    requires { (count ≤ 16) × Runnable (parts_from widths.now fills.now 0 count)
+        × Ask values.now (parts_size (parts_from widths.now fills.now 0 count)) at 0 c }
     ensures { PutAsked values.now out.old out.new
-        (partsSize (partsFrom widths.now fills.now 0 count)) at c result (partsAs (partsFrom widths.now fills.now 0 count)) }
+        (parts_size (parts_from widths.now fills.now 0 count)) at c result (parts_as (parts_from widths.now fills.now 0 count)) }
 {
     let mut d = c;
     let mut place = at;
@@ -97,9 +97,9 @@ pub fn planned(
     at: usize,
     c: Cursor,
 ) -> Wrote
-    requires { (plan.count ≤ 16) × Runnable (parts_of plan) × (partsSize (parts_of plan) ≡ size) × Ask values.now (count * size) at 0 c }
+    requires { (plan.count ≤ 16) × Runnable (parts_of plan) × (parts_size (parts_of plan) ≡ size) × Ask values.now (count * size) at 0 c }
     ensures { PutAsked values.now out.old out.new (count * size) at c result
-        (elements (λ i. partsAs (parts_of plan)) 0 count) }
+        (elements (λ i. parts_as (parts_of plan)) 0 count) }
 {
     let widths = plan.widths;
     let fills = plan.fills;

@@ -3,16 +3,16 @@ ghost use Rattle.std.specs.Prelude.{true, ◌≡◌, ◌+◌, ◌-◌, ◌*◌, 
 ghost use Rattle.std.proofs.lemmas.List.Edits.{sets};
 ghost use Rattle.rules.specs.Bytes.{bytes_of};
 ghost use Rattle.rules.specs.TypeTable.{TypeTable};
-ghost use Rattle.rules.specs.Envelope.{encodeWord};
-ghost use Rattle.rules.specs.Sound.{widthAllowed};
+ghost use Rattle.rules.specs.Envelope.{encode_word};
+ghost use Rattle.rules.specs.Sound.{width_allowed};
 ghost use Rattle.write_leaves.specs.Putting.{Stands, PutsInLine};
-ghost use Rattle.write_leaves.specs.InLine.{boolAs, handleAs, numbersAs, NoneAbove};
+ghost use Rattle.write_leaves.specs.InLine.{bool_as, handle_as, numbers_as, NoneAbove};
 
 use crate::cursor::{Cursor, Wrote, refused, took, with_handles};
 
 pub fn boolean(values: &[u64], out: &mut [u8], at: usize, c: Cursor) -> Wrote
     requires { Stands values.now c }
-    ensures { PutsInLine values.now out.old out.new 1 at c result boolAs }
+    ensures { PutsInLine values.now out.old out.new 1 at c result bool_as }
 {
     if values.len() <= c.index {
         return refused(26, c.index);
@@ -27,7 +27,7 @@ pub fn boolean(values: &[u64], out: &mut [u8], at: usize, c: Cursor) -> Wrote
 
 // The largest number of a width.
 pub(crate) fn largest(width: u32) -> u64
-    requires { widthAllowed width ≡ true }
+    requires { width_allowed width ≡ true }
     ensures { result + 1 ≡ 256 ^ width }
 {
     if width == 1 {
@@ -43,7 +43,7 @@ pub(crate) fn largest(width: u32) -> u64
 }
 
 pub(crate) fn put_word(out: &mut [u8], width: u32, at: usize, v: u64)
-    requires { (widthAllowed width ≡ true) × (v < 256 ^ width) }
+    requires { (width_allowed width ≡ true) × (v < 256 ^ width) }
     ensures { out.new ≡ sets out.old at (bytes_of width v) }
 {
     if width == 1 {
@@ -58,8 +58,8 @@ pub(crate) fn put_word(out: &mut [u8], width: u32, at: usize, v: u64)
 }
 
 pub fn number(values: &[u64], out: &mut [u8], width: u32, at: usize, c: Cursor) -> Wrote
-    requires { (widthAllowed width ≡ true) × Stands values.now c × (at + width ≤ 65536) }
-    ensures { PutsInLine values.now out.old out.new width at c result (encodeWord width) }
+    requires { (width_allowed width ≡ true) × Stands values.now c × (at + width ≤ 65536) }
+    ensures { PutsInLine values.now out.old out.new width at c result (encode_word width) }
 {
     if values.len() <= c.index {
         return refused(26, c.index);
@@ -75,7 +75,7 @@ pub fn number(values: &[u64], out: &mut [u8], width: u32, at: usize, c: Cursor) 
 // A handle: 1 or 0.
 pub fn handle(values: &[u64], out: &mut [u8], optional: u32, at: usize, c: Cursor) -> Wrote
     requires { Stands values.now c }
-    ensures { (t : TypeTable) → PutsInLine values.now out.old out.new 4 at c result (handleAs t (eqb optional 1)) }
+    ensures { (t : TypeTable) → PutsInLine values.now out.old out.new 4 at c result (handle_as t (eqb optional 1)) }
 {
     if values.len() <= c.index {
         return refused(26, c.index);
@@ -125,7 +125,7 @@ fn took_all(c: Cursor, count: usize) -> Cursor
 // Numbers of one byte, all of them in the list and within it, where there is room for all.
 fn put_bytes(values: &[u64], out: &mut [u8], count: usize, at: usize, c: Cursor) -> Wrote
     requires { Stands values.now c × (c.index + count ≤ length values.now) × NoneAbove values.now c.index count 255 × (at + count ≤ length out.old) }
-    ensures { PutsInLine values.now out.old out.new (count * 1) at c result (numbersAs 1 count) }
+    ensures { PutsInLine values.now out.old out.new (count * 1) at c result (numbers_as 1 count) }
 {
     let from = c.index;
     let mut i = 0;
@@ -138,8 +138,8 @@ fn put_bytes(values: &[u64], out: &mut [u8], count: usize, at: usize, c: Cursor)
 
 // Numbers of a width one by one, each judged before it is put.
 fn put_each(values: &[u64], out: &mut [u8], width: u32, count: usize, at: usize, c: Cursor) -> Wrote
-    requires { (widthAllowed width ≡ true) × Stands values.now c × (at + count * width ≤ 65536) }
-    ensures { PutsInLine values.now out.old out.new (count * width) at c result (numbersAs width count) }
+    requires { (width_allowed width ≡ true) × Stands values.now c × (at + count * width ≤ 65536) }
+    ensures { PutsInLine values.now out.old out.new (count * width) at c result (numbers_as width count) }
 {
     let most = largest(width);
     let mut i = 0;
@@ -170,8 +170,8 @@ pub fn numbers(
     at: usize,
     c: Cursor,
 ) -> Wrote
-    requires { (widthAllowed width ≡ true) × Stands values.now c × (at + count * width ≤ 65536) }
-    ensures { PutsInLine values.now out.old out.new (count * width) at c result (numbersAs width count) }
+    requires { (width_allowed width ≡ true) × Stands values.now c × (at + count * width ≤ 65536) }
+    ensures { PutsInLine values.now out.old out.new (count * width) at c result (numbers_as width count) }
 {
     if out.len() <= at {
         if are_within(values, largest(width), c.index, count) {

@@ -1,10 +1,10 @@
 // Strict enums and strict bits (W-206).
 ghost use Rattle.std.specs.Prelude.{◌*◌};
 ghost use Rattle.rules.specs.Encode.{elements};
-ghost use Rattle.rules.specs.TypeTable.{aIn};
+ghost use Rattle.rules.specs.TypeTable.{a_in};
 ghost use Rattle.strict.specs.Strict.{StrictRow};
 ghost use Rattle.write_leaves.specs.Putting.{Ask};
-ghost use Rattle.write_leaves.specs.InLine.{strictAs};
+ghost use Rattle.write_leaves.specs.InLine.{strict_as};
 ghost use Rattle.write_leaves.specs.Planning.{PutAsked};
 
 use crate::cursor::{Cursor, Wrote, refused, took};
@@ -22,9 +22,9 @@ pub fn strict_values(
     at: usize,
     c: Cursor,
 ) -> Wrote
-    requires { StrictRow rows.now entries.now row × Ask values.now (count * aIn rows.now row) at 0 c }
-    ensures { PutAsked values.now out.old out.new (count * aIn rows.now row) at c result
-        (elements (λ i. strictAs rows.now entries.now row) 0 count) }
+    requires { StrictRow rows.now entries.now row × Ask values.now (count * a_in rows.now row) at 0 c }
+    ensures { PutAsked values.now out.old out.new (count * a_in rows.now row) at c result
+        (elements (λ i. strict_as rows.now entries.now row) 0 count) }
 {
     let kind = table::kind_at(rows, row);
     let width = table::a_at(rows, row);

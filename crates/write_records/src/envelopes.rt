@@ -1,11 +1,11 @@
 // Envelopes: a union's ordinal, unknown content, and the fields that are filled from what a payload took.
 ghost use Rattle.std.specs.Prelude.{◌≡◌, ◌+◌, ◌-◌, ◌≤◌, ◌<◌, ◌%◌};
 ghost use Rattle.std.proofs.lemmas.List.Edits.{sets};
-ghost use Rattle.rules.specs.Records.{isKnown};
-ghost use Rattle.rules.specs.Envelope.{envelopeBytes, writeUnknownInLine, writeUnknownOutOfLine};
-ghost use Rattle.ordinals.specs.Ordinals.{ordinalIs, Rising};
+ghost use Rattle.rules.specs.Records.{is_known};
+ghost use Rattle.rules.specs.Envelope.{envelope_bytes, write_unknown_in_line, write_unknown_out_of_line};
+ghost use Rattle.ordinals.specs.Ordinals.{ordinal_is, Rising};
 ghost use Rattle.write_leaves.specs.Putting.{Stands, Ask, Puts, PutsInLine};
-ghost use Rattle.write_records.specs.Contracts.{UnionOpens, MemberIs, UnknownPuts, sealedOut};
+ghost use Rattle.write_records.specs.Promises.{UnionOpens, MemberIs, UnknownPuts, sealed_out};
 
 use crate::records::{Opening, object_of_numbers};
 use ordinals::Ordinal;
@@ -21,7 +21,7 @@ pub enum Member {
 }
 
 fn is_known(what: Ordinal) -> bool
-    ensures { result ≡ isKnown (ordinalIs what) }
+    ensures { result ≡ is_known (ordinal_is what) }
 {
     match what {
         Ordinal::Known(_) => true,
@@ -67,7 +67,7 @@ pub fn union_member(
 
 pub(crate) fn put_envelope(out: &mut [u8], at: usize, low: u32, handles: u16, flags: u16)
     requires { at < 4294967296 }
-    ensures { out.new ≡ sets out.old at (envelopeBytes low handles flags) }
+    ensures { out.new ≡ sets out.old at (envelope_bytes low handles flags) }
 {
     words::store32(out, at, low);
     words::store16(out, at + 4, handles);
@@ -108,7 +108,7 @@ pub fn unknown_content(
 
 fn unknown_in_line(values: &[u64], out: &mut [u8], at: usize, c: Cursor) -> Wrote
     requires { Stands values.now c × (at < 4294967296) }
-    ensures { PutsInLine values.now out.old out.new 8 at c result writeUnknownInLine }
+    ensures { PutsInLine values.now out.old out.new 8 at c result write_unknown_in_line }
 {
     if values.len() <= c.index {
         return refused(26, c.index);
@@ -142,7 +142,7 @@ fn unknown_out_of_line(
     c: Cursor,
 ) -> Wrote
     requires { Ask values.now 8 at base c × (0 < c.index) × (0 < bytes) × (bytes % 8 ≡ 0) }
-    ensures { Puts values.now out.old out.new 8 at base c result (writeUnknownOutOfLine bytes) }
+    ensures { Puts values.now out.old out.new 8 at base c result (write_unknown_out_of_line bytes) }
 {
     let start = c.next;
     let whole = bytes as usize;
@@ -177,7 +177,7 @@ fn unknown_out_of_line(
 // After a known payload, its envelope is completed: in line, the fill and the last four bytes; out of line, all of it.
 pub fn sealed(out: &mut [u8], size: usize, at: usize, bytes: u32, handles: u16)
     requires { (at ≤ 65536) × (size ≤ 65528) }
-    ensures { out.new ≡ sealedOut out.old size at bytes handles }
+    ensures { out.new ≡ sealed_out out.old size at bytes handles }
 {
     if size <= 4 {
         put_zeros(out, at + size, 4 - size);

@@ -3,10 +3,10 @@
 ghost use Rattle.std.specs.Prelude.{true, ◌≡◌, ◌+◌, ◌-◌, ◌*◌, ◌≤◌, ◌<◌, min, length};
 ghost use Rattle.std.proofs.lemmas.List.Edits.{sets};
 ghost use Rattle.rules.specs.Bytes.{zeros, padded};
-ghost use Rattle.rules.specs.Sound.{widthAllowed};
+ghost use Rattle.rules.specs.Sound.{width_allowed};
 ghost use Rattle.write_leaves.specs.Putting.{Stands, Ask};
 ghost use Rattle.write_records.specs.Opening.{Claimed};
-ghost use Rattle.write_records.specs.Contracts.{HasCount, NotClosed, Reaches, ClaimOpens, DeeperOpens, NumbersPut, CountedOpens, StringPuts, BoxOpens, TableOpens};
+ghost use Rattle.write_records.specs.Promises.{HasCount, NotClosed, Reaches, ClaimOpens, DeeperOpens, NumbersPut, CountedOpens, StringPuts, BoxOpens, TableOpens};
 
 use rules::Fault;
 use write_leaves::cursor::{Cursor, Wrote, fault_at, put_zeros, refused, took};
@@ -84,7 +84,7 @@ pub(crate) fn object_of_numbers(
     width: u32,
     x: Opening,
 ) -> Wrote
-    requires { (widthAllowed width ≡ true) × Claimed values.now (x.count * width) base x }
+    requires { (width_allowed width ≡ true) × Claimed values.now (x.count * width) base x }
     ensures { NumbersPut values.now out.old out.new base width x result }
 {
     let from = rest_from(base, x.start, out.len());

@@ -1,11 +1,11 @@
 // Value, element and envelope writer: they call each other until the depth is spent, as the walk of a message does. Rows of
 // smaller numbers stand in line; whatever stands out of line is one level down.
 ghost use Rattle.std.specs.Prelude.{true, ◌≡◌, ◌*◌, ◌<◌};
-ghost use Rattle.rules.specs.TypeTable.{typeTable, kindAt};
+ghost use Rattle.rules.specs.TypeTable.{type_table, kind_at};
 ghost use Rattle.rules.specs.Sizes.{size_of};
-ghost use Rattle.nesting.specs.Nesting.{hasParts};
+ghost use Rattle.nesting.specs.Nesting.{has_parts};
 ghost use Rattle.layout.specs.Ready.{Ready, Outside};
-ghost use Rattle.write_leaves.specs.Putting.{Ask, cursorAt};
+ghost use Rattle.write_leaves.specs.Putting.{Ask, cursor_at};
 ghost use Rattle.write_records.specs.Opening.{Claimed};
 ghost use Rattle.write_walk.specs.Walking.{PayloadReady, ValuePut, ElementsPut, ObjectOf, SingleOf, EnvelopesPut, ContentPut};
 
@@ -39,9 +39,9 @@ pub fn value(
     handles: usize,
     index: usize,
 ) -> Wrote
-    requires { Ready (typeTable rows.now members.now entries.now) sizes.now alignments.now depth row
-        × Ask values.now (size_of (typeTable rows.now members.now entries.now) row) at base (cursorAt next handles index) }
-    ensures { ValuePut (typeTable rows.now members.now entries.now) values.now out.old out.new base depth at (cursorAt next handles index) row result }
+    requires { Ready (type_table rows.now members.now entries.now) sizes.now alignments.now depth row
+        × Ask values.now (size_of (type_table rows.now members.now entries.now) row) at base (cursor_at next handles index) }
+    ensures { ValuePut (type_table rows.now members.now entries.now) values.now out.old out.new base depth at (cursor_at next handles index) row result }
 {
     let c = Cursor {
         next,
@@ -104,9 +104,9 @@ fn elements(
     at: usize,
     c: Cursor,
 ) -> Wrote
-    requires { Ready (typeTable rows.now members.now entries.now) sizes.now alignments.now depth row
-        × Ask values.now (count * size_of (typeTable rows.now members.now entries.now) row) at base c }
-    ensures { ElementsPut (typeTable rows.now members.now entries.now) values.now out.old out.new base depth at c row count result }
+    requires { Ready (type_table rows.now members.now entries.now) sizes.now alignments.now depth row
+        × Ask values.now (count * size_of (type_table rows.now members.now entries.now) row) at base c }
+    ensures { ElementsPut (type_table rows.now members.now entries.now) values.now out.old out.new base depth at c row count result }
 {
     let kind = table::kind_at(rows, row);
     if kind == 2 {
@@ -158,9 +158,9 @@ fn composite(
     at: usize,
     c: Cursor,
 ) -> Wrote
-    requires { Ready (typeTable rows.now members.now entries.now) sizes.now alignments.now depth row × (hasParts rows.now row ≡ true)
-        × Ask values.now (size_of (typeTable rows.now members.now entries.now) row) at base c }
-    ensures { ValuePut (typeTable rows.now members.now entries.now) values.now out.old out.new base depth at c row result }
+    requires { Ready (type_table rows.now members.now entries.now) sizes.now alignments.now depth row × (has_parts rows.now row ≡ true)
+        × Ask values.now (size_of (type_table rows.now members.now entries.now) row) at base c }
+    ensures { ValuePut (type_table rows.now members.now entries.now) values.now out.old out.new base depth at c row result }
 {
     // one of bools and numbers alone goes by a plan, which can be only where its first member is one of them
     let first = table::a_at(rows, row) as usize;
@@ -242,9 +242,9 @@ fn object(
     row: usize,
     x: Opening,
 ) -> Wrote
-    requires { Ready (typeTable rows.now members.now entries.now) sizes.now alignments.now depth row
-        × Claimed values.now (x.count * size_of (typeTable rows.now members.now entries.now) row) base x }
-    ensures { ObjectOf (typeTable rows.now members.now entries.now) values.now out.old out.new base depth x row result }
+    requires { Ready (type_table rows.now members.now entries.now) sizes.now alignments.now depth row
+        × Claimed values.now (x.count * size_of (type_table rows.now members.now entries.now) row) base x }
+    ensures { ObjectOf (type_table rows.now members.now entries.now) values.now out.old out.new base depth x row result }
 {
     let from = rest_from(base, x.start, out.len());
     let rest = &mut out[from..];
@@ -271,9 +271,9 @@ fn single(
     row: usize,
     x: Opening,
 ) -> Wrote
-    requires { Ready (typeTable rows.now members.now entries.now) sizes.now alignments.now depth row
-        × Claimed values.now (size_of (typeTable rows.now members.now entries.now) row) base x }
-    ensures { SingleOf (typeTable rows.now members.now entries.now) values.now out.old out.new base depth x row result }
+    requires { Ready (type_table rows.now members.now entries.now) sizes.now alignments.now depth row
+        × Claimed values.now (size_of (type_table rows.now members.now entries.now) row) base x }
+    ensures { SingleOf (type_table rows.now members.now entries.now) values.now out.old out.new base depth x row result }
 {
     let from = rest_from(base, x.start, out.len());
     let rest = &mut out[from..];
@@ -313,9 +313,9 @@ fn out_of_line(
     at: usize,
     c: Cursor,
 ) -> Wrote
-    requires { Ready (typeTable rows.now members.now entries.now) sizes.now alignments.now depth row × Outside (kindAt (typeTable rows.now members.now entries.now) row)
-        × Ask values.now (size_of (typeTable rows.now members.now entries.now) row) at base c }
-    ensures { ValuePut (typeTable rows.now members.now entries.now) values.now out.old out.new base depth at c row result }
+    requires { Ready (type_table rows.now members.now entries.now) sizes.now alignments.now depth row × Outside (kind_at (type_table rows.now members.now entries.now) row)
+        × Ask values.now (size_of (type_table rows.now members.now entries.now) row) at base c }
+    ensures { ValuePut (type_table rows.now members.now entries.now) values.now out.old out.new base depth at c row result }
 {
     let kind = table::kind_at(rows, row);
     let a = table::a_at(rows, row) as usize;
@@ -420,9 +420,9 @@ fn envelopes(
     count: usize,
     c: Cursor,
 ) -> Wrote
-    requires { Ready (typeTable rows.now members.now entries.now) sizes.now alignments.now depth row × (kindAt (typeTable rows.now members.now entries.now) row ≡ 9)
+    requires { Ready (type_table rows.now members.now entries.now) sizes.now alignments.now depth row × (kind_at (type_table rows.now members.now entries.now) row ≡ 9)
         × Ask values.now (count * 8) 0 base c }
-    ensures { EnvelopesPut (typeTable rows.now members.now entries.now) values.now out.old out.new base depth c row count result }
+    ensures { EnvelopesPut (type_table rows.now members.now entries.now) values.now out.old out.new base depth c row count result }
 {
     let first = table::a_at(rows, row) as usize;
     let known = table::b_at(rows, row) as usize;
@@ -475,9 +475,9 @@ fn content(
     at: usize,
     c: Cursor,
 ) -> Wrote
-    requires { PayloadReady (typeTable rows.now members.now entries.now) sizes.now alignments.now depth what
+    requires { PayloadReady (type_table rows.now members.now entries.now) sizes.now alignments.now depth what
         × Ask values.now 8 at base c × (0 < c.index) }
-    ensures { ContentPut (typeTable rows.now members.now entries.now) values.now out.old out.new base depth at c what result }
+    ensures { ContentPut (type_table rows.now members.now entries.now) values.now out.old out.new base depth at c what result }
 {
     match what {
         Ordinal::Unknown => unknown_content(values, out, base, depth, at, c),

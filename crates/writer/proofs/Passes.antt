@@ -18,9 +18,9 @@ use Rattle.rules.specs.Encode.{Encoded, wrote, cannot}
 use Rattle.rules.specs.Writer as R
 use Rattle.rules.specs.Answers as Rules
 use Rattle.rules.specs.Answers.{encode, closed}
-use Rattle.rules.proofs.Envelopes.{nil-of}
-use Rattle.layout.proofs.Rows.{sound-rows, sound-size}
-use Rattle.layout.proofs.Keeping.{kept-size}
+use Rattle.rules.proofs.Envelopes.{nil_of}
+use Rattle.layout.proofs.Rows.{sound_rows, sound_size}
+use Rattle.layout.proofs.Keeping.{kept_size}
 use Rattle.layout.specs.Ready.{Ready}
 use Rattle.writer.specs.declared.Written.{Written}
 use Rattle.writer.specs.declared.Written.TheVariants as Whole
@@ -29,35 +29,35 @@ use Rattle.write_leaves.specs.declared.cursor.Wrote.{Wrote}
 use Rattle.write_leaves.specs.declared.cursor.Wrote.TheVariants.{On, Refused}
 use Rattle.write_leaves.specs.Putting.{answer, Stored, Fit, Put, Ask}
 use Rattle.write_walk.specs.Walking.{ValuePut}
-use Rattle.writer.specs.Answers.{written_of, sizesOf}
-use Rattle.writer.specs.Passing.{start, afterValue, PrimaryPut, Passed}
-use Rattle.write_leaves.proofs.Leading.{wrote-length}
-use Rattle.write_records.proofs.Claims.{object-filled}
+use Rattle.writer.specs.Answers.{written_of, sizes_of}
+use Rattle.writer.specs.Passing.{start, after_value, PrimaryPut, Passed}
+use Rattle.write_leaves.proofs.Leading.{wrote_length}
+use Rattle.write_records.proofs.Claims.{object_filled}
 
 -- ---- the primary object
 
 -- The root's size is at most 65,528: its claim at 0 is never refused.
-encode-root : (t : TypeTable) (root : ℕ) (values : List ℕ) → size_of t root ≤ 65528
-    → encode t root values ≡ E.asObject (size_of t root) (R.encodeRow t (R.levels t 32) root values (0 + padded (size_of t root)) 0)
+encode_root : (t : TypeTable) (root : ℕ) (values : List ℕ) → size_of t root ≤ 65528
+    → encode t root values ≡ E.as_object (size_of t root) (R.encode_row t (R.levels t 32) root values (0 + padded (size_of t root)) 0)
 unfolding encode E.claim padded round_up
-encode-root t root values h = rw (le-leb (0 + padded (size_of t root)) 65536 (omega arith))
+encode_root t root values h = rw (le-leb (0 + padded (size_of t root)) 65536 (omega arith))
 
 -- A value that is refused, as an object.
-object-refused : {values out out' : List ℕ} {inner : ℕ} (size : ℕ) {c d : Cursor} {f : Fault} {e : Encoded} → Put values out out' inner 0 0 d (Refused f) e
-    → Put values out out' 0 0 0 c (Refused f) (E.asObject size e)
-object-refused {values} {out} {out'} size {c} {d} {f} {e} p = go e p.says p.stored
+object_refused : {values out out' : List ℕ} {inner : ℕ} (size : ℕ) {c d : Cursor} {f : Fault} {e : Encoded} → Put values out out' inner 0 0 d (Refused f) e
+    → Put values out out' 0 0 0 c (Refused f) (E.as_object size e)
+object_refused {values} {out} {out'} size {c} {d} {f} {e} p = go e p.says p.stored
   where
-    go : (e : Encoded) → Refused f ≡ answer (length values) e → Stored out out' 0 (d.next - 0) e → Put values out out' 0 0 0 c (Refused f) (E.asObject size e)
+    go : (e : Encoded) → Refused f ≡ answer (length values) e → Stored out out' 0 (d.next - 0) e → Put values out out' 0 0 0 c (Refused f) (E.as_object size e)
     go (wrote inline outside n u rest) a s = absurd (let w : ◌≡◌ {A = ℕ} 0 1 = cc in omega arith)
     go (cannot number left) a s = record { says = a; stored = s; fit = tt }
 
 module _ {t : TypeTable} {sizes alignments : List ℕ} {root : ℕ} (ready : Ready t sizes alignments 32 root) {size : ℕ}
     (kept : size ≡ get_or sizes root 0) where
-  root-size : size ≡ size_of t root
-  root-size = kept ∙ rw ready.sizes-kept (kept-size t ready.sound root ready.in_use)
+  root_size : size ≡ size_of t root
+  root_size = kept ∙ rw ready.sizes_kept (kept_size t ready.sound root ready.in_use)
 
-  size-bound : size_of t root ≤ 65528
-  size-bound = sound-size t root (sound-rows t ready.sound root ready.in_use)
+  size_bound : size_of t root ≤ 65528
+  size_bound = sound_size t root (sound_rows t ready.sound root ready.in_use)
 
   -- where the root's value begins
   abbrev first : Cursor
@@ -65,28 +65,28 @@ module _ {t : TypeTable} {sizes alignments : List ℕ} {root : ℕ} (ready : Rea
 
   claimed : (size + 7) / 8 * 8 ≡ 0 + padded (size_of t root)
   unfolding padded round_up
-  claimed = omega (arith, root-size)
+  claimed = omega (arith, root_size)
 
-  pub root-asked : (values : List ℕ) → Ready t sizes alignments 32 root × Ask values (size_of t root) 0 0 first
-  root-asked values =
-      (ready, record { inside = omega (arith, root-size); free = omega (arith, root-size, size-bound); held = omega arith; left = omega arith })
+  pub root_asked : (values : List ℕ) → Ready t sizes alignments 32 root × Ask values (size_of t root) 0 0 first
+  root_asked values =
+      (ready, record { inside = omega (arith, root_size); free = omega (arith, root_size, size_bound); held = omega arith; left = omega arith })
 
-  pub fill-asked : size ≤ 65536
-  fill-asked = omega (arith, root-size, size-bound)
+  pub fill_asked : size ≤ 65536
+  fill_asked = omega (arith, root_size, size_bound)
 
   module _ {values out out' : List ℕ} {r : Wrote} (put : ValuePut t values out out' 0 32 0 first root r) where
     abbrev written : Encoded
-    written = R.encodeRow t (R.levels t 32) root values (0 + padded (size_of t root)) 0
+    written = R.encode_row t (R.levels t 32) root values (0 + padded (size_of t root)) 0
 
-    value-put : Put values out out' (size_of t root) 0 0
+    value_put : Put values out out' (size_of t root) 0 0
         (record { next = 0 + padded (size_of t root); handles = 0; index = 0 }) r written
-    value-put = rw claimed at put
+    value_put = rw claimed at put
 
-    pub primary-refused : {f : Fault} → r ≡ Refused f → PrimaryPut t values root out out' (Refused f)
-    primary-refused e = rw (encode-root t root values size-bound) (object-refused (size_of t root) (rw e at value-put))
+    pub primary_refused : {f : Fault} → r ≡ Refused f → PrimaryPut t values root out out' (Refused f)
+    primary_refused e = rw (encode_root t root values size_bound) (object_refused (size_of t root) (rw e at value_put))
 
-    pub primary-put : {end : Cursor} {out'' : List ℕ} → r ≡ On end → out'' ≡ sets out' size (zeros (padded size - size)) → PrimaryPut t values root out out'' (On end)
-    primary-put e z = rw (encode-root t root values size-bound) (object-filled {c = start} (rw e at value-put) (rw root-size at z))
+    pub primary_put : {end : Cursor} {out'' : List ℕ} → r ≡ On end → out'' ≡ sets out' size (zeros (padded size - size)) → PrimaryPut t values root out out'' (On end)
+    primary_put e z = rw (encode_root t root values size_bound) (object_filled {c = start} (rw e at value_put) (rw root_size at z))
 
 -- ---- after it
 
@@ -94,10 +94,10 @@ module _ (t : TypeTable) (values : List ℕ) (root : ℕ) {out out' : List ℕ} 
   abbrev whole : Encoded
   whole = encode t root values
 
-  pub value-refused : {f : Fault} → r ≡ Refused f → Passed t values root out out' (Whole.Refused f)
-  value-refused {f} e = record { answers = says whole put.says; long = wrote-length put; stored = λ w. nothing whole put.says w }
+  pub value_refused : {f : Fault} → r ≡ Refused f → Passed t values root out out' (Whole.Refused f)
+  value_refused {f} e = record { answers = says whole put.says; long = wrote_length put; stored = λ w. nothing whole put.says w }
     where
-      says : (d : Encoded) → r ≡ answer (length values) d → refused f ≡ sizesOf (closed (length values) d)
+      says : (d : Encoded) → r ≡ answer (length values) d → refused f ≡ sizes_of (closed (length values) d)
       says (wrote i o n u rest) a = absurd (let w : ◌≡◌ {A = ℕ} 0 1 = cc in omega arith)
       says (cannot number left) a = let z : f ≡ fault number (Index (length values - left)) = cc in rw z
 
@@ -105,11 +105,11 @@ module _ (t : TypeTable) (values : List ℕ) (root : ℕ) {out out' : List ℕ} 
       nothing (wrote i o n u rest) a w q = absurd (let z : ◌≡◌ {A = ℕ} 0 1 = cc in omega arith)
       nothing (cannot number left) a w q = absurd (let z : ◌≡◌ {A = ℕ} 0 1 = cc in omega arith)
 
-  pub value-ended : {end : Cursor} {w : Written} → r ≡ On end → written_of w ≡ afterValue end (length values) → Passed t values root out out' w
-  value-ended {end} e tested =
-      record { answers = tested ∙ says whole put.says put.fit; long = wrote-length put; stored = λ w. stands whole put.says put.stored put.fit w }
+  pub value_ended : {end : Cursor} {w : Written} → r ≡ On end → written_of w ≡ after_value end (length values) → Passed t values root out out' w
+  value_ended {end} e tested =
+      record { answers = tested ∙ says whole put.says put.fit; long = wrote_length put; stored = λ w. stands whole put.says put.stored put.fit w }
     where
-      says : (d : Encoded) → r ≡ answer (length values) d → Fit values 0 start d → afterValue end (length values) ≡ sizesOf (closed (length values) d)
+      says : (d : Encoded) → r ≡ answer (length values) d → Fit values 0 start d → after_value end (length values) ≡ sizes_of (closed (length values) d)
       says (wrote i o n u []) a f =
           let same : end ≡ record { next = n; handles = u; index = length values - 0 } = cc in
           let all : n ≡ length o = omega (arith, f.claimed) in
@@ -123,6 +123,6 @@ module _ (t : TypeTable) (values : List ℕ) (root : ℕ) {out out' : List ℕ} 
 
       stands : (d : Encoded) → r ≡ answer (length values) d → Stored out out' 0 0 d → Fit values 0 start d → (w : Rules.Written)
           → closed (length values) d ≡ accepted w → out' ≡ sets out 0 w.bytes
-      stands (wrote i o n u []) a s f w q = let z : o ≡ w.bytes = cc in rw (← z) (s ∙ rw (nil-of i f.whole))
+      stands (wrote i o n u []) a s f w q = let z : o ≡ w.bytes = cc in rw (← z) (s ∙ rw (nil_of i f.whole))
       stands (wrote i o n u (v ∷ rest)) a s f w q = absurd (let z : ◌≡◌ {A = ℕ} 0 1 = cc in omega arith)
       stands (cannot number left) a s f w q = absurd (let z : ◌≡◌ {A = ℕ} 0 1 = cc in omega arith)

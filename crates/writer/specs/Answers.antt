@@ -1,7 +1,7 @@
 -- What the answers of this crate's public function mean in the rules.
 -- Assumes nothing.
 use Rattle.std.specs.Prelude.{[], ◌∷◌, length}
-use Rattle.rules.specs.Refusals.{placeNumber, Answer, accepted, refused, and_then}
+use Rattle.rules.specs.Refusals.{place_number, Answer, accepted, refused, and_then}
 use Rattle.rules.specs.Answers as Rules
 use Rattle.rules.specs.Answers.{Numbers}
 use Rattle.writer.specs.declared.Sizes.{Sizes}
@@ -13,10 +13,10 @@ written_of (Accepted sizes) = accepted sizes
 written_of (Refused f) = refused f
 
 -- Document 01's number, place and values of each case.
-abbrev pub writtenNumbers : Written → Numbers
-writtenNumbers (Accepted sizes) = record { number = 0; place = 0; values = sizes.bytes ∷ sizes.handles ∷ [] }
-writtenNumbers (Refused f) = record { number = f.number; place = placeNumber f.place; values = 0 ∷ 0 ∷ [] }
+abbrev pub written_numbers : Written → Numbers
+written_numbers (Accepted sizes) = record { number = 0; place = 0; values = sizes.bytes ∷ sizes.handles ∷ [] }
+written_numbers (Refused f) = record { number = f.number; place = place_number f.place; values = 0 ∷ 0 ∷ [] }
 
 -- What is answered of a message that is written: how many bytes and handles it has.
-abbrev pub sizesOf : Answer Rules.Written → Answer Sizes
-sizesOf answer = and_then answer (λ w. accepted (record { bytes = length w.bytes; handles = w.handles }))
+abbrev pub sizes_of : Answer Rules.Written → Answer Sizes
+sizes_of answer = and_then answer (λ w. accepted (record { bytes = length w.bytes; handles = w.handles }))

@@ -3,7 +3,7 @@
 use Rattle.std.specs.Prelude.{List, ◌≡◌, ℕ, eqb, length}
 use Rattle.std.proofs.lemmas.List.Edits.{sets}
 use Rattle.rules.specs.declared.Place.TheVariants.{Index}
-use Rattle.rules.specs.Refusals.{fault, notAValue, Answer, accepted, require}
+use Rattle.rules.specs.Refusals.{fault, not_aValue, Answer, accepted, require}
 use Rattle.rules.specs.TypeTable.{TypeTable}
 use Rattle.rules.specs.Answers as Rules
 use Rattle.rules.specs.Answers.{encode, closed}
@@ -12,16 +12,16 @@ use Rattle.writer.specs.declared.Written.{Written}
 use Rattle.write_leaves.specs.declared.cursor.Cursor.{Cursor}
 use Rattle.write_leaves.specs.declared.cursor.Wrote.{Wrote}
 use Rattle.write_leaves.specs.Putting.{Put}
-use Rattle.writer.specs.Answers.{written_of, sizesOf}
+use Rattle.writer.specs.Answers.{written_of, sizes_of}
 
 -- Where a message starts.
 abbrev pub start : Cursor
 start = record { next = 0; handles = 0; index = 0 }
 
 -- 26 for numbers left: what is answered where the value ends.
-abbrev pub afterValue : (end : Cursor) (total : ℕ) → Answer Sizes
-afterValue end total =
-    require (eqb end.index total) (fault notAValue (Index end.index)) (accepted (record { bytes = end.next; handles = end.handles }))
+abbrev pub after_value : (end : Cursor) (total : ℕ) → Answer Sizes
+after_value end total =
+    require (eqb end.index total) (fault not_aValue (Index end.index)) (accepted (record { bytes = end.next; handles = end.handles }))
 
 module _ (t : TypeTable) (values : List ℕ) (root : ℕ) (out out' : List ℕ) where
   -- The whole message is one object, and claims no bytes in line.
@@ -31,6 +31,6 @@ module _ (t : TypeTable) (values : List ℕ) (root : ℕ) (out out' : List ℕ) 
   -- One pass with the test after it. A message stands from the start on, as far as there is room; a refusal may leave a part of one
   -- there, which is why nothing is lent to a pass that may be refused.
   pub record Passed (r : Written) : Type 0 where
-    pub answers : written_of r ≡ sizesOf (closed (length values) (encode t root values))
+    pub answers : written_of r ≡ sizes_of (closed (length values) (encode t root values))
     pub long : length out' ≡ length out
     pub stored : (w : Rules.Written) → closed (length values) (encode t root values) ≡ accepted w → out' ≡ sets out 0 w.bytes

@@ -2,10 +2,10 @@
 mod pass;
 
 ghost use Rattle.std.specs.Prelude.{◌≡◌, length};
-ghost use Rattle.rules.specs.TypeTable.{typeTable};
+ghost use Rattle.rules.specs.TypeTable.{type_table};
 ghost use Rattle.rules.specs.Answers as Rules;
-ghost use Rattle.rules.specs.Answers.{outputAfter, numbersOf, sized};
-ghost use Rattle.writer.specs.Answers.{written_of, writtenNumbers, sizesOf};
+ghost use Rattle.rules.specs.Answers.{output_after, numbers_of, sized};
+ghost use Rattle.writer.specs.Answers.{written_of, written_numbers, sizes_of};
 
 use pass::{measure, pass};
 use rules::{Fault, Place};
@@ -34,9 +34,9 @@ pub fn write(
     values: &[u64],
     out: &mut [u8],
 ) -> Written
-    ensures answer { written_of result ≡ sizesOf (Rules.write (typeTable rows.now members.now entries.now) root values.now (length out.old)) }
-    ensures output { out.new ≡ outputAfter (Rules.write (typeTable rows.now members.now entries.now) root values.now (length out.old)) out.old }
-    ensures numbers { writtenNumbers result ≡ numbersOf 2 sized (Rules.write (typeTable rows.now members.now entries.now) root values.now (length out.old)) }
+    ensures answer { written_of result ≡ sizes_of (Rules.write (type_table rows.now members.now entries.now) root values.now (length out.old)) }
+    ensures output { out.new ≡ output_after (Rules.write (type_table rows.now members.now entries.now) root values.now (length out.old)) out.old }
+    ensures numbers { written_numbers result ≡ numbers_of 2 sized (Rules.write (type_table rows.now members.now entries.now) root values.now (length out.old)) }
 {
     let mut sizes = [0u32; 256];
     let mut alignments = [0u32; 256];

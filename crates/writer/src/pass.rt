@@ -1,12 +1,12 @@
 // A value list measured, and its message written: the tests before the writer's walk, the root's value, the test after it.
 ghost use Rattle.std.specs.Prelude.{◌≡◌};
-ghost use Rattle.rules.specs.TypeTable.{typeTable};
+ghost use Rattle.rules.specs.TypeTable.{type_table};
 ghost use Rattle.rules.specs.Answers.{written};
-ghost use Rattle.layout.specs.Answers.{keptSizes, keptAlignments, givenIfSound};
+ghost use Rattle.layout.specs.Answers.{kept_sizes, kept_alignments, given_if_sound};
 ghost use Rattle.layout.specs.Kept.{Zeroed};
 ghost use Rattle.layout.specs.Ready.{Ready};
-ghost use Rattle.writer.specs.Answers.{written_of, sizesOf};
-ghost use Rattle.writer.specs.Passing.{PrimaryPut, afterValue, Passed};
+ghost use Rattle.writer.specs.Answers.{written_of, sizes_of};
+ghost use Rattle.writer.specs.Passing.{PrimaryPut, after_value, Passed};
 
 use crate::{Sizes, Written};
 use layout::climb::climb;
@@ -27,8 +27,8 @@ fn primary(
     values: &[u64],
     out: &mut [u8],
 ) -> Wrote
-    requires { Ready (typeTable rows.now members.now entries.now) sizes.now alignments.now 32 root }
-    ensures { PrimaryPut (typeTable rows.now members.now entries.now) values.now root out.old out.new result }
+    requires { Ready (type_table rows.now members.now entries.now) sizes.now alignments.now 32 root }
+    ensures { PrimaryPut (type_table rows.now members.now entries.now) values.now root out.old out.new result }
 {
     let size = words::number_at(sizes, root) as usize;
     let whole = (size + 7) / 8 * 8;
@@ -45,7 +45,7 @@ fn primary(
 
 // Numbers left: 26.
 fn after(end: Cursor, total: usize) -> Written
-    ensures { written_of result ≡ afterValue end total }
+    ensures { written_of result ≡ after_value end total }
 {
     if end.index != total {
         return Written::Refused(fault_at(26, end.index));
@@ -67,8 +67,8 @@ pub(crate) fn pass(
     values: &[u64],
     out: &mut [u8],
 ) -> Written
-    requires { Ready (typeTable rows.now members.now entries.now) sizes.now alignments.now 32 root }
-    ensures { Passed (typeTable rows.now members.now entries.now) values.now root out.old out.new result }
+    requires { Ready (type_table rows.now members.now entries.now) sizes.now alignments.now 32 root }
+    ensures { Passed (type_table rows.now members.now entries.now) values.now root out.old out.new result }
 {
     match primary(
         rows,
@@ -97,11 +97,11 @@ pub(crate) fn measure(
     values: &[u64],
 ) -> Written
     requires { Zeroed sizes.old × Zeroed alignments.old }
-    ensures answer { written_of result ≡ sizesOf (written (typeTable rows.now members.now entries.now) root values.now) }
-    ensures sizes { let t = typeTable rows.now members.now entries.now in
-        sizes.new ≡ givenIfSound t (keptSizes t) sizes.old }
-    ensures alignments { let t = typeTable rows.now members.now entries.now in
-        alignments.new ≡ givenIfSound t (keptAlignments t) alignments.old }
+    ensures answer { written_of result ≡ sizes_of (written (type_table rows.now members.now entries.now) root values.now) }
+    ensures sizes { let t = type_table rows.now members.now entries.now in
+        sizes.new ≡ given_if_sound t (kept_sizes t) sizes.old }
+    ensures alignments { let t = type_table rows.now members.now entries.now in
+        alignments.new ≡ given_if_sound t (kept_alignments t) alignments.old }
 {
     let verdict = climb(rows, members, entries, sizes, alignments);
     if let Soundness::Refused(f) = verdict {

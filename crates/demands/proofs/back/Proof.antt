@@ -2,7 +2,7 @@
 -- Assumes nothing.
 use borrow.Author.Rules.{rules}
 use mathlib.Core.Path.{refl}
-use Rattle.demands.proofs.Trips.{back-output, back-accepted, back-starts, back-handles, never-different}
+use Rattle.demands.proofs.Trips.{back_output, back_accepted, back_starts, back_handles, never_different}
 use Rattle.demands.proofs.back.Statement.{statement}
 use Rattle.demands.proofs.back.Tie as tie
 
@@ -11,22 +11,22 @@ slice-reshare-prefix-same c =
     let sizes = c.before in
     let written = sizes.before.before.before.before in
     let start = written.before.before.before.before.before.before.before.before in
-    (back-starts _ _ _ _ _ start.args.out.now _ start.requires _ written.write.ensures.0 written.write.ensures.1.0 sizes.sizes.given.1).within
+    (back_starts _ _ _ _ _ start.args.out.now _ start.requires _ written.write.ensures.0 written.write.ensures.1.0 sizes.sizes.given.1).within
 
 slice-aggregate-same : tie.Need-slice-aggregate-same
 slice-aggregate-same c =
     let sizes = c.before.before in
     let written = sizes.before.before.before.before in
     let start = written.before.before.before.before.before.before.before.before in
-    (back-starts _ _ _ _ _ start.args.out.now _ start.requires _ written.write.ensures.0 written.write.ensures.1.0 sizes.sizes.given.1).long
+    (back_starts _ _ _ _ _ start.args.out.now _ start.requires _ written.write.ensures.0 written.write.ensures.1.0 sizes.sizes.given.1).long
 
 returns : tie.Need-returns
 returns c =
     let f = c.before in
     let written = f.before.before.before.before in
     let start = written.before.before.before.before.before.before.before.before in (
-      absurd (back-accepted _ _ _ _ _ start.args.out.now _ start.requires _ written.write.ensures.0 written.write.ensures.1.0 f.f.given.1),
-      back-output _ _ _ _ _ start.args.out.now _ start.requires written.write.result written.write.ensures.0 written.write.ensures.1.0,
+      absurd (back_accepted _ _ _ _ _ start.args.out.now _ start.requires _ written.write.ensures.0 written.write.ensures.1.0 f.f.given.1),
+      back_output _ _ _ _ _ start.args.out.now _ start.requires written.write.result written.write.ensures.0 written.write.ensures.1.0,
     )
 
 returns-2 : tie.Need-returns-2
@@ -35,7 +35,7 @@ returns-2 c =
     let written = sizes.before.before.before.before in
     let start = written.before.before.before.before.before.before.before.before in (
       refl,
-      back-output _ _ _ _ _ start.args.out.now _ start.requires written.write.result written.write.ensures.0 written.write.ensures.1.0,
+      back_output _ _ _ _ _ start.args.out.now _ start.requires written.write.result written.write.ensures.0 written.write.ensures.1.0,
     )
 
 returns-3 : tie.Need-returns-3
@@ -43,9 +43,9 @@ returns-3 c =
     let sizes = c.before.before.before.before in
     let written = sizes.before.before.before.before in
     let start = written.before.before.before.before.before.before.before.before in
-    absurd (never-different
-    (c.before.same.ensures.1 (back-starts _ _ _ _ _ start.args.out.now _ start.requires _ written.write.ensures.0 written.write.ensures.1.0 sizes.sizes.given.1).same)
-    (back-handles _ _ _ _ _ start.args.out.now _ start.requires _ written.write.ensures.0 written.write.ensures.1.0 sizes.sizes.given.1)
+    absurd (never_different
+    (c.before.same.ensures.1 (back_starts _ _ _ _ _ start.args.out.now _ start.requires _ written.write.ensures.0 written.write.ensures.1.0 sizes.sizes.given.1).same)
+    (back_handles _ _ _ _ _ start.args.out.now _ start.requires _ written.write.ensures.0 written.write.ensures.1.0 sizes.sizes.given.1)
     c.if1.false)
 
 pub back-spec : {M : Type 1} → statement M

@@ -2,14 +2,14 @@
 -- Assumes nothing.
 use native.Mathlib.Omega.{arith}
 use borrow.Author.Rules.{rules}
-use Rattle.demands.proofs.Trips.{octets, passed, read-starts, read-written, trip-unchecked, trip-short, trip-unread, trip-back}
+use Rattle.demands.proofs.Trips.{octets, passed, read_starts, read_written, trip_unchecked, trip_short, trip_unread, trip_back}
 use Rattle.demands.proofs.round_trip.Statement.{statement}
 use Rattle.demands.proofs.round_trip.Tie as tie
 
 returns : tie.Need-returns
 returns c =
     let f = c.before in
-    trip-unchecked _ _ _ _ _ _ f.before.before.check.result f.before.before.check.ensures.0 f.f.given.1
+    trip_unchecked _ _ _ _ _ _ f.before.before.check.result f.before.before.check.ensures.0 f.f.given.1
 
 needed-requires : tie.Need-needed-requires
 needed-requires c κs =
@@ -22,7 +22,7 @@ returns-2 c =
     let told = c.before.before in
     let checked = told.before.before in
     let start = checked.before.before.before.before.before.before.before in
-    trip-short _ _ _ _ _ _ checked.check.result checked.check.ensures.0 told.enum_told.given.1
+    trip_short _ _ _ _ _ _ checked.check.result checked.check.ensures.0 told.enum_told.given.1
     (octets start.args.message.now (λ i. omega (arith, checked.before.before.before.shared-slice-known4.given i))) (omega arith) c.needed.ensures
 
 slice-reshare-prefix-back : tie.Need-slice-reshare-prefix-back
@@ -32,7 +32,7 @@ slice-reshare-prefix-back c =
     let told = read.before.before.before in
     let checked = told.before.before in
     let start = checked.before.before.before.before.before.before.before in
-    (read-starts _ _ _ _ _ _ checked.check.result checked.check.ensures.0 told.enum_told.given.1 start.args.values.now _ _ read.read-values.ensures.0 read.read-values.ensures.1.0 count.count.given.1).within
+    (read_starts _ _ _ _ _ _ checked.check.result checked.check.ensures.0 told.enum_told.given.1 start.args.values.now _ _ read.read-values.ensures.0 read.read-values.ensures.1.0 count.count.given.1).within
 
 slice-aggregate-back : tie.Need-slice-aggregate-back
 slice-aggregate-back c =
@@ -41,7 +41,7 @@ slice-aggregate-back c =
     let told = read.before.before.before in
     let checked = told.before.before in
     let start = checked.before.before.before.before.before.before.before in
-    (read-starts _ _ _ _ _ _ checked.check.result checked.check.ensures.0 told.enum_told.given.1 start.args.values.now _ _ read.read-values.ensures.0 read.read-values.ensures.1.0 count.count.given.1).long
+    (read_starts _ _ _ _ _ _ checked.check.result checked.check.ensures.0 told.enum_told.given.1 start.args.values.now _ _ read.read-values.ensures.0 read.read-values.ensures.1.0 count.count.given.1).long
 
 back-requires : tie.Need-back-requires
 back-requires c κs =
@@ -50,7 +50,7 @@ back-requires c κs =
     let told = read.before.before.before in
     let checked = told.before.before in
     let start = checked.before.before.before.before.before.before.before in (
-      read-written _ _ _ _ _ _ checked.check.result checked.check.ensures.0 told.enum_told.given.1 start.args.values.now _ _ read.read-values.ensures.0 read.read-values.ensures.1.0
+      read_written _ _ _ _ _ _ checked.check.result checked.check.ensures.0 told.enum_told.given.1 start.args.values.now _ _ read.read-values.ensures.0 read.read-values.ensures.1.0
           (octets start.args.message.now (λ i. omega (arith, checked.before.before.before.shared-slice-known4.given i))) count.count.given.1,
       omega arith,
     )
@@ -62,7 +62,7 @@ returns-3 c =
     let told = read.before.before.before in
     let checked = told.before.before in
     let start = checked.before.before.before.before.before.before.before in
-    trip-unread _ _ _ _ _ _ checked.check.result checked.check.ensures.0 told.enum_told.given.1 start.args.values.now _ _ read.read-values.ensures.0 read.read-values.ensures.1.0 f.f2.given.1
+    trip_unread _ _ _ _ _ _ checked.check.result checked.check.ensures.0 told.enum_told.given.1 start.args.values.now _ _ read.read-values.ensures.0 read.read-values.ensures.1.0 f.f2.given.1
 
 returns-4 : tie.Need-returns-4
 returns-4 c =
@@ -72,7 +72,7 @@ returns-4 c =
     let told = read.before.before.before in
     let checked = told.before.before in
     let start = checked.before.before.before.before.before.before.before in
-    trip-back _ _ _ _ _ _ checked.check.result checked.check.ensures.0 told.enum_told.given.1 start.args.values.now _ _ read.read-values.ensures.0 read.read-values.ensures.1.0 start.args.out.now _
+    trip_back _ _ _ _ _ _ checked.check.result checked.check.ensures.0 told.enum_told.given.1 start.args.values.now _ _ read.read-values.ensures.0 read.read-values.ensures.1.0 start.args.out.now _
     (octets start.args.message.now (λ i. omega (arith, checked.before.before.before.shared-slice-known4.given i))) (omega arith) count.count.given.1 back.back.ensures
 
 pub round-trip-spec : {M : Type 1} → statement M

@@ -2,7 +2,7 @@
 -- Assumes nothing.
 use Prim.Native.Nat.{◌<◌}
 use borrow.Author.Rules.{rules}
-use Rattle.header.proofs.Writing.{stored-header}
+use Rattle.header.proofs.Writing.{stored_header}
 use Rattle.header.proofs.store_header.Statement.{statement}
 use Rattle.header.proofs.store_header.Tie as tie
 
@@ -17,7 +17,7 @@ returns c =
     let flag1 = flag2.before.before.before.before in
     let flag0 = flag1.before.before.before.before in
     let transaction = flag0.before.before.before.before in
-    stored-header header start.args.out.now bytes transaction.store32.ensures flag0.store8.ensures
+    stored_header header start.args.out.now bytes transaction.store32.ensures flag0.store8.ensures
     flag1.store82.ensures flag2.store83.ensures magic.store84.ensures ordinal.store64.ensures
 
 pub store-header-spec : {M : Type 1} → statement M

@@ -6,12 +6,12 @@ use borrow.Author.Rules.{rules}
 use mir.Syntax.{w32}
 use mir.ValLaws.{to_z-of_z}
 use Rattle.rules.specs.Bytes.{pattern32}
-use Rattle.header.proofs.Writing.{epitaph-refused, epitaph-written}
+use Rattle.header.proofs.Writing.{epitaph_refused, epitaph_written}
 use Rattle.header.proofs.write_epitaph.Statement.{statement}
 use Rattle.header.proofs.write_epitaph.Tie as tie
 
 returns : tie.Need-returns
-returns c = epitaph-refused _ _ _ _ _ (omega (arith, c.before.if1.true)) c.no_room.ensures
+returns c = epitaph_refused _ _ _ _ _ (omega (arith, c.before.if1.true)) c.no_room.ensures
 
 returns-2 : tie.Need-returns-2
 returns-2 c =
@@ -21,7 +21,7 @@ returns-2 c =
     let header = pattern.before.before.before.before in
     let room = header.before.before in
     let start = room.before.before in
-    epitaph-written _ _ _ _ _ (omega (arith, room.if1.false)) (pattern.pattern32.ensures ∙ ap pattern32 (to_z-of_z w32 start.args.status start.ranges.status))
+    epitaph_written _ _ _ _ _ (omega (arith, room.if1.false)) (pattern.pattern32.ensures ∙ ap pattern32 (to_z-of_z w32 start.args.status start.ranges.status))
     header.store-header.ensures
     status.store32.ensures fill.store322.ensures
 

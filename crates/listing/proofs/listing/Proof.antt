@@ -9,8 +9,8 @@ use lib.ListN.{length, take}
 use lib.Seq.{length-take-le}
 use Rattle.rules.specs.Refusals.{Answer}
 use Rattle.rules.specs.Answers.{Lists, read}
-use Rattle.listing.specs.Listing.{messageOf}
-use Rattle.listing.proofs.Answered.{Listed, listed, too_long, listing-refused, listing-accepted}
+use Rattle.listing.specs.Listing.{message_of}
+use Rattle.listing.proofs.Answered.{Listed, listed, too_long, listing_refused, listing_accepted}
 use Rattle.listing.proofs.listing.Statement.{statement}
 use Rattle.listing.proofs.listing.Tie as tie
 
@@ -22,7 +22,7 @@ abbrev bytes-at : tie.After-objects-room → List ℕ
 bytes-at c = c.before.before.before.before.before.args.message.now
 
 abbrev answer_at : tie.After-objects-room → Answer Lists
-answer_at c = read (messageOf (bytes-at c)) 4 (length c.before.values-room.result) (length c.objects-room.result)
+answer_at c = read (message_of (bytes-at c)) 4 (length c.before.values-room.result) (length c.objects-room.result)
 
 abbrev values-at : tie.After-lengths → List ℕ
 values-at c = c.before.before.before.before.read.new.1.1.1.1.1.1.0
@@ -45,20 +45,20 @@ few c =
     let lists = held c in
     let given = c.before.before.before.before in
     let lent = given.before.before.before.before.before.before in (
-      sym (length-take-le c.lengths.given.0.0.objects (objects-at c) lists.objects-within),
-      sym (length-take-le c.lengths.given.0.0.values (values-at c) lists.values-within),
-      omega (arith, lists.objects-within, given.read.auto.1.1.1.1.1.1.1.0, lent.objects-room.ensures),
-      omega (arith, lists.values-within, given.read.auto.1.1.1.1.1.1.0, lent.before.values-room.ensures),
+      sym (length-take-le c.lengths.given.0.0.objects (objects-at c) lists.objects_within),
+      sym (length-take-le c.lengths.given.0.0.values (values-at c) lists.values_within),
+      omega (arith, lists.objects_within, given.read.auto.1.1.1.1.1.1.1.0, lent.objects-room.ensures),
+      omega (arith, lists.values_within, given.read.auto.1.1.1.1.1.1.0, lent.before.values-room.ensures),
     )
 
 array-share-prefix-objects : tie.Need-array-share-prefix-objects
-array-share-prefix-objects c = (held c.before.before.before.before.before.before).objects-within
+array-share-prefix-objects c = (held c.before.before.before.before.before.before).objects_within
 
 slice-aggregate-put-lists : tie.Need-slice-aggregate-put-lists
 slice-aggregate-put-lists c = (few c.before.before.before.before.before.before.before).0
 
 array-share-prefix-values : tie.Need-array-share-prefix-values
-array-share-prefix-values c = (held c.before.before.before.before.before.before.before).values-within
+array-share-prefix-values c = (held c.before.before.before.before.before.before.before).values_within
 
 slice-aggregate-put-lists-2 : tie.Need-slice-aggregate-put-lists-2
 slice-aggregate-put-lists-2 c = (few c.before.before.before.before.before.before.before.before).1
@@ -73,7 +73,7 @@ returns-2 c =
     let refused = c.before.before.before.before.before in
     let given = refused.before.before.before.before in
     let lent = given.before.before.before.before.before.before in
-    listing-refused (bytes-at lent) lent.before.values-room.result lent.objects-room.result (omega arith)
+    listing_refused (bytes-at lent) lent.before.values-room.result lent.objects-room.result (omega arith)
     (lent.before.values-room.ensures, lent.objects-room.ensures) given.read.result given.read.ensures refused.f.given.1
     c.before.before.put-refusal2.ensures
 
@@ -84,7 +84,7 @@ returns-3 c =
     let given = accepted.before.before.before.before in
     let lent = given.before.before.before.before.before.before in
     let sizes = few accepted in
-    listing-accepted (bytes-at lent) lent.before.values-room.result lent.objects-room.result (omega arith)
+    listing_accepted (bytes-at lent) lent.before.values-room.result lent.objects-room.result (omega arith)
     (lent.before.values-room.ensures, lent.objects-room.ensures) given.read.result given.read.ensures accepted.lengths.given.1
     (omega (arith, sizes.0, sizes.1, sizes.2, sizes.3)) head.put-head.ensures c.before.before.put-lists.ensures
 

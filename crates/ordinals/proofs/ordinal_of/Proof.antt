@@ -4,7 +4,7 @@
 use Prim.Native.Nat.{◌-◌}
 use native.Mathlib.Omega.{arith}
 use borrow.Author.Rules.{rules}
-use Rattle.ordinals.proofs.Halving.{Searched, halved-past, few-members, searched-whole, searched-none, searched-here, searched-up, searched-down}
+use Rattle.ordinals.proofs.Halving.{Searched, halved_past, few_members, searched_whole, searched_none, searched_here, searched_up, searched_down}
 use Rattle.ordinals.proofs.ordinal_of.Statement.{statement}
 use Rattle.ordinals.proofs.ordinal_of.Tie as tie
 
@@ -15,25 +15,25 @@ abbrev decreases-loop : tie.decreases-loop
 decreases-loop members first count ordinal low₀ high₀ low high = high - low
 
 returns : tie.Need-returns invariant-loop decreases-loop
-returns c = search (rules, halved-past)
+returns c = search (rules, halved_past)
 
 add-high : tie.Need-overflow-add-high invariant-loop decreases-loop
-add-high c = omega (arith, few-members c.before.before.args.first c.before.before.args.count c.if1.false)
+add-high c = omega (arith, few_members c.before.before.args.first c.before.before.args.count c.if1.false)
 
 loop-holds : tie.Need-loop-init invariant-loop decreases-loop
-loop-holds c = search (rules, searched-whole)
+loop-holds c = search (rules, searched_whole)
 
 returns-2 : tie.Need-returns-2 invariant-loop decreases-loop
-returns-2 c = search (rules, searched-here)
+returns-2 c = search (rules, searched_here)
 
 loop-again : tie.Need-loop-preserved invariant-loop decreases-loop
-loop-again c = search (rules, searched-up)
+loop-again c = search (rules, searched_up)
 
 loop-again-2 : tie.Need-loop-preserved-2 invariant-loop decreases-loop
-loop-again-2 c = search (rules, searched-down)
+loop-again-2 c = search (rules, searched_down)
 
 returns-3 : tie.Need-returns-3 invariant-loop decreases-loop
-returns-3 c = search (rules, searched-none)
+returns-3 c = search (rules, searched_none)
 
 pub ordinal-of-spec : {M : Type 1} → statement M
 ordinal-of-spec =

@@ -6,7 +6,7 @@ use native.Mathlib.Nat.{min-le_right}
 use lib.ListN.{length}
 use lib.Seq.{length-take-le}
 use borrow.Author.Rules.{rules}
-use Rattle.prepared.proofs.Operations.{cut-prepared}
+use Rattle.prepared.proofs.Operations.{cut_prepared}
 use Rattle.prepared.proofs.cut_state.Statement.{statement}
 use Rattle.prepared.proofs.cut_state.Tie as tie
 
@@ -25,7 +25,7 @@ slice-aggregate-prepare-3 c =
 returns : tie.Need-returns
 returns c =
     let a = c.before.before.before.before.before.before.before.before.before.before.before.args in
-    cut-prepared a.state a.rows.now a.members.now a.entries.now c.before.before.before.before.before.before.before.cut_at.ensures c.before.before.before.before.before.before.cut-at2.ensures c.before.before.before.before.before.cut-at3.ensures
+    cut_prepared a.state a.rows.now a.members.now a.entries.now c.before.before.before.before.before.before.before.cut_at.ensures c.before.before.before.before.before.before.cut-at2.ensures c.before.before.before.before.before.cut-at3.ensures
     c.before.prepare.ensures.0
 
 pub cut-state-spec : {M : Type 1} → statement M

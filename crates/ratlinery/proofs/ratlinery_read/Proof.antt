@@ -3,10 +3,10 @@
 use mathlib.Core.List.{[], ◌∷◌}
 use borrow.Author.Rules.{rules}
 use lib.ListN.{length}
-use Rattle.rules.specs.TypeTable.{typeTable}
+use Rattle.rules.specs.TypeTable.{type_table}
 use Rattle.rules.specs.Answers as Rules
 use Rattle.walk_leaves.specs.Doing as Doing
-use Rattle.ratlinery.proofs.Telling.{tells-result, tells-refusal, tells-lists, three-stored}
+use Rattle.ratlinery.proofs.Telling.{tells_result, tells_refusal, tells_lists, three_stored}
 use Rattle.ratlinery.proofs.ratlinery_read.Statement.{statement}
 use Rattle.ratlinery.proofs.ratlinery_read.Tie as tie
 
@@ -15,7 +15,7 @@ returns c =
     let at_f = c.before.before.before.before.before in
     let at_read = at_f.before.before.before.before.before.before in
     let start = at_read.before.before.before.before.before.before.before.before.before.before in
-    let t = tells-lists (Rules.read (Doing.message (typeTable start.args.rows.now start.args.members.now start.args.entries.now) start.args.message.now start.args.handles) start.args.root (length start.args.values.now) (length start.args.objects.now)) start.args.answer.now (tells-refusal 2 (λ l. l.values ∷ l.objects ∷ []) start.args.answer.now (rw at_f.f.given.1 at at_read.read.ensures.0) c.before.before.refused.ensures.0 c.before.before.refused.ensures.1) in (t.0, (at_read.read.ensures.1.0, (at_read.read.ensures.1.1.0, t.1)))
+    let t = tells_lists (Rules.read (Doing.message (type_table start.args.rows.now start.args.members.now start.args.entries.now) start.args.message.now start.args.handles) start.args.root (length start.args.values.now) (length start.args.objects.now)) start.args.answer.now (tells_refusal 2 (λ l. l.values ∷ l.objects ∷ []) start.args.answer.now (rw at_f.f.given.1 at at_read.read.ensures.0) c.before.before.refused.ensures.0 c.before.before.refused.ensures.1) in (t.0, (at_read.read.ensures.1.0, (at_read.read.ensures.1.1.0, t.1)))
 
 returns-2 : tie.Need-returns-2
 returns-2 c =
@@ -24,7 +24,7 @@ returns-2 c =
     let at-lengths = at-put-value.before.before.before in
     let at_read = at-lengths.before.before.before.before.before.before in
     let start = at_read.before.before.before.before.before.before.before.before.before.before in
-    let t = tells-lists (Rules.read (Doing.message (typeTable start.args.rows.now start.args.members.now start.args.entries.now) start.args.message.now start.args.handles) start.args.root (length start.args.values.now) (length start.args.objects.now)) start.args.answer.now (tells-result 2 (λ l. l.values ∷ l.objects ∷ []) start.args.answer.now (rw at-lengths.lengths.given.1 at at_read.read.ensures.0) (three-stored start.args.answer.now _ _ _ at-put-value.put-value.ensures at-put-value2.put-value2.ensures c.before.before.put-value3.ensures)) in (t.0, (at_read.read.ensures.1.0, (at_read.read.ensures.1.1.0, t.1)))
+    let t = tells_lists (Rules.read (Doing.message (type_table start.args.rows.now start.args.members.now start.args.entries.now) start.args.message.now start.args.handles) start.args.root (length start.args.values.now) (length start.args.objects.now)) start.args.answer.now (tells_result 2 (λ l. l.values ∷ l.objects ∷ []) start.args.answer.now (rw at-lengths.lengths.given.1 at at_read.read.ensures.0) (three_stored start.args.answer.now _ _ _ at-put-value.put-value.ensures at-put-value2.put-value2.ensures c.before.before.put-value3.ensures)) in (t.0, (at_read.read.ensures.1.0, (at_read.read.ensures.1.1.0, t.1)))
 
 pub ratlinery-read-spec : {M : Type 1} → statement M
 ratlinery-read-spec =

@@ -2,10 +2,10 @@
 -- Assumes nothing.
 use borrow.Author.Rules.{rules}
 use lib.ListN.{length}
-use Rattle.rules.specs.TypeTable.{typeTable}
+use Rattle.rules.specs.TypeTable.{type_table}
 use Rattle.rules.specs.Answers as Rules
 use Rattle.walk_leaves.specs.Doing as Doing
-use Rattle.ratlinery.proofs.Telling.{tells-list}
+use Rattle.ratlinery.proofs.Telling.{tells_list}
 use Rattle.ratlinery.proofs.ratlinery_read_objects.Statement.{statement}
 use Rattle.ratlinery.proofs.ratlinery_read_objects.Tie as tie
 
@@ -13,7 +13,7 @@ returns : tie.Need-returns
 returns c =
     let at-read-objects = c.before.before.before.before.before.before in
     let start = at-read-objects.before.before.before.before.before.before.before.before in
-    let t = tells-list (Rules.readObjects (Doing.message (typeTable start.args.rows.now start.args.members.now start.args.entries.now) start.args.message.now start.args.handles) start.args.root (length start.args.objects.now)) start.args.answer.now (rw at-read-objects.read-objects.ensures.0 at c.before.before.given.ensures) in (t.0, (at-read-objects.read-objects.ensures.1.0, t.1))
+    let t = tells_list (Rules.read_objects (Doing.message (type_table start.args.rows.now start.args.members.now start.args.entries.now) start.args.message.now start.args.handles) start.args.root (length start.args.objects.now)) start.args.answer.now (rw at-read-objects.read-objects.ensures.0 at c.before.before.given.ensures) in (t.0, (at-read-objects.read-objects.ensures.1.0, t.1))
 
 pub ratlinery-read-objects-spec : {M : Type 1} → statement M
 ratlinery-read-objects-spec = tie.close (tie.spec (λ c κs. search rules) (λ c κs. search rules) (λ c. search rules) (λ c. search rules) returns)

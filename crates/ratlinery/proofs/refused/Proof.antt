@@ -4,9 +4,9 @@ use mathlib.Core.Path.{refl, ap, ◌∙◌}
 use Prim.Native.Nat.{◌-◌}
 use borrow.Author.Rules.{rules}
 use lib.ListN.{length, length-set}
-use Rattle.rules.specs.Refusals.{placeNumber}
-use Rattle.write_leaves.proofs.Filling.{Filled, filled_none, filled-length}
-use Rattle.ratlinery.proofs.Telling.{one-cleared, all-cleared}
+use Rattle.rules.specs.Refusals.{place_number}
+use Rattle.write_leaves.proofs.Filling.{Filled, filled_none, filled_length}
+use Rattle.ratlinery.proofs.Telling.{one_cleared, all_cleared}
 use Rattle.ratlinery.proofs.refused.Statement.{statement}
 use Rattle.ratlinery.proofs.refused.Tie as tie
 
@@ -20,17 +20,17 @@ loop-holds : tie.Need-loop-init invariant-loop decreases-loop
 loop-holds c = search (rules, filled_none)
 
 loop-again : tie.Need-loop-preserved invariant-loop decreases-loop
-loop-again c = search (rules, one-cleared)
+loop-again c = search (rules, one_cleared)
 
 same_length : tie.Need-same-length invariant-loop decreases-loop
-same_length c = filled-length _ _ _ _ _ c.before.loop.invariant ∙ ap length c.before.before.before.before.put-value.ensures ∙ simp length-set
+same_length c = filled_length _ _ _ _ _ c.before.loop.invariant ∙ ap length c.before.before.before.before.put-value.ensures ∙ simp length-set
 
 returns : tie.Need-returns invariant-loop decreases-loop
 returns c =
     let at-put-value = c.before.before.before.before in
     let at-place-number = at-put-value.before in
     let start = at-place-number.before.before.before in
-    (refl, all-cleared start.args.answer.now _ (placeNumber start.args.f.place) _ _ _ c.before.loop.invariant c.loop-test.false (rw at-place-number.place-number.ensures at at-put-value.put-value.ensures))
+    (refl, all_cleared start.args.answer.now _ (place_number start.args.f.place) _ _ _ c.before.loop.invariant c.loop-test.false (rw at-place-number.place-number.ensures at at-put-value.put-value.ensures))
 
 pub refused-spec : {M : Type 1} → statement M
 refused-spec =

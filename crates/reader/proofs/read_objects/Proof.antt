@@ -2,32 +2,32 @@
 -- Assumes nothing.
 use native.Mathlib.Omega.{arith}
 use borrow.Author.Rules.{rules}
-use Rattle.reader.proofs.Judging.{judged-walkable}
-use Rattle.reader.proofs.Lent.{objects-refused, objects-room, objects-read}
+use Rattle.reader.proofs.Judging.{judged_walkable}
+use Rattle.reader.proofs.Lent.{objects_refused, objects_room, objects_read}
 use Rattle.reader.proofs.read_objects.Statement.{statement}
 use Rattle.reader.proofs.read_objects.Tie as tie
 
 returns : tie.Need-returns
 returns c =
     let accepted = c.before.before.before.before in
-    objects-room _ _ _ _ accepted.before.before.judge.ensures.0 accepted.needed.given.1 _ (omega (arith, c.before.if1.true))
+    objects_room _ _ _ _ accepted.before.before.judge.ensures.0 accepted.needed.given.1 _ (omega (arith, c.before.if1.true))
     c.room-too-small.ensures
 
 pass-requires : tie.Need-pass-requires
 pass-requires c κs =
     let accepted = c.before.before.before.before.before.before.before in
     let judged = accepted.before.before.judge in
-    judged-walkable _ _ _ _ _ _ _ _ judged.ensures.0 accepted.needed.given.1 judged.ensures.1.0 judged.ensures.1.1
+    judged_walkable _ _ _ _ _ _ _ _ judged.ensures.0 accepted.needed.given.1 judged.ensures.1.0 judged.ensures.1.1
 
 returns-2 : tie.Need-returns-2
-returns-2 c = objects-refused _ _ _ _ c.before.before.before.judge.ensures.0 _ c.before.f.given.1
+returns-2 c = objects_refused _ _ _ _ c.before.before.before.judge.ensures.0 _ c.before.f.given.1
 
 returns-3 : tie.Need-returns-3
 returns-3 c =
     let walked = c.before.before.before in
     let fits = walked.before.before.before.before.before in
     let accepted = fits.before.before.before in
-    objects-read _ _ _ _ accepted.before.before.judge.ensures.0 accepted.needed.given.1 walked.pass.ensures (omega (arith, fits.if1.false))
+    objects_read _ _ _ _ accepted.before.before.judge.ensures.0 accepted.needed.given.1 walked.pass.ensures (omega (arith, fits.if1.false))
 
 pub read-objects-spec : {M : Type 1} → statement M
 read-objects-spec =

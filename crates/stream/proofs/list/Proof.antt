@@ -6,7 +6,7 @@ use native.Mathlib.Omega.{arith}
 use lib.ListN.{take, get_or, drop_of_length-le}
 use lib.Seq.{take-nil}
 use borrow.Author.Rules.{rules}
-use Rattle.stream.proofs.Laws.{start-past}
+use Rattle.stream.proofs.Laws.{start_past}
 use Rattle.stream.proofs.list.Statement.{statement}
 use Rattle.stream.proofs.list.Tie as tie
 
@@ -18,7 +18,7 @@ returns c =
     let a = c.before.before.before.args in
     let count = get_or a.case.now a.at 0 in (
       sym (ap (take count) (drop_of_length-le a.case.now {i = a.at + 1} (omega arith)) ∙ take-nil {A = ℕ} count),
-      start-past a.case.now (a.at + 1) a.case.ref_ptr (omega arith),
+      start_past a.case.now (a.at + 1) a.case.ref_ptr (omega arith),
     )
 
 add-rest : tie.Need-overflow-add-rest

@@ -6,7 +6,7 @@ use Prim.Native.Nat.{◌-◌}
 use native.Mathlib.Omega.{arith}
 use borrow.Author.Rules.{rules}
 use lib.ListN.{length}
-use Rattle.stream.proofs.Laws.{Reads, nothing_read, digit-bounds, digit-read, number_read, line_read, text-read}
+use Rattle.stream.proofs.Laws.{Reads, nothing_read, digit_bounds, digit-read, number_read, line_read, text-read}
 use Rattle.stream.proofs.read_line.Statement.{statement}
 use Rattle.stream.proofs.read_line.Tie as tie
 
@@ -29,7 +29,7 @@ is-digit-requires : tie.Need-is-digit-requires invariant-loop decreases-loop
 is-digit-requires c κs = search rules
 
 with-digit-requires : tie.Need-with-digit-requires invariant-loop decreases-loop
-with-digit-requires c κs = digit-bounds _ (sym c.before.is_digit.ensures ∙ c.if1.true)
+with-digit-requires c κs = digit_bounds _ (sym c.before.is_digit.ensures ∙ c.if1.true)
 
 loop-less : tie.Need-loop-smaller invariant-loop decreases-loop
 loop-less c = omega arith

@@ -6,7 +6,7 @@ use native.Mathlib.Omega.{arith}
 use lib.ListN.{length, drop, length-drop, drop_of_length-le}
 use lib.Seq.{take_all}
 use borrow.Author.Rules.{rules}
-use Rattle.stream.proofs.Laws.{start-inside, start-past}
+use Rattle.stream.proofs.Laws.{start_inside, start_past}
 use Rattle.stream.proofs.rest.Statement.{statement}
 use Rattle.stream.proofs.rest.Tie as tie
 
@@ -29,13 +29,13 @@ returns : tie.Need-returns
 returns c =
     let a = c.before.before.args in (
       take_all (length a.numbers.now - a.at) (drop a.at a.numbers.now) (omega (arith, length-drop a.at a.numbers.now)),
-      start-inside a.numbers.now a.at a.numbers.ref_ptr (omega arith),
+      start_inside a.numbers.now a.at a.numbers.ref_ptr (omega arith),
     )
 
 returns-2 : tie.Need-returns-2
 returns-2 c =
     let a = c.before.before.args in
-    (sym (drop_of_length-le a.numbers.now {i = a.at} (omega arith)), start-past a.numbers.now a.at a.numbers.ref_ptr (omega arith))
+    (sym (drop_of_length-le a.numbers.now {i = a.at} (omega arith)), start_past a.numbers.now a.at a.numbers.ref_ptr (omega arith))
 
 pub rest-spec : {M : Type 1} → statement M
 rest-spec =

@@ -5,7 +5,7 @@ use Prim.Native.Nat.{◌-◌}
 use native.Mathlib.Omega.{arith}
 use borrow.Author.Rules.{rules}
 use lib.ListN.{length}
-use Rattle.stream.proofs.Laws.{Stores, nothing_stored, number-stored, room-full, all-stored}
+use Rattle.stream.proofs.Laws.{Stores, nothing_stored, number-stored, room_full, all_stored}
 use Rattle.stream.proofs.to_bytes.Statement.{statement}
 use Rattle.stream.proofs.to_bytes.Tie as tie
 
@@ -22,7 +22,7 @@ same_length : tie.Need-same-length invariant-loop decreases-loop
 same_length c = omega arith
 
 returns : tie.Need-returns invariant-loop decreases-loop
-returns c = room-full c.before.before.loop.invariant c.if1.true
+returns c = room_full c.before.before.loop.invariant c.if1.true
 
 mul-bytes : tie.Need-overflow-mul-bytes invariant-loop decreases-loop
 mul-bytes c = search rules
@@ -49,7 +49,7 @@ same-length-2 : tie.Need-same-length-2 invariant-loop decreases-loop
 same-length-2 c = omega arith
 
 returns-2 : tie.Need-returns-2 invariant-loop decreases-loop
-returns-2 c = all-stored c.before.loop.invariant c.loop-test.false
+returns-2 c = all_stored c.before.loop.invariant c.loop-test.false
 
 pub to-bytes-spec : {M : Type 1} → statement M
 to-bytes-spec =

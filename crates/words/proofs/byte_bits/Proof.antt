@@ -2,7 +2,7 @@
 -- Assumes nothing.
 use Rattle.std.proofs.Common.{◌≡◌, ◌-◌, ◌≤◌, length, rules}
 use Rattle.words.specs.Bits.{bits_of}
-use Rattle.words.proofs.Bits.{bits_none, bits-more, bits-all}
+use Rattle.words.proofs.Bits.{bits_none, bits_more, bits_all}
 use Rattle.words.proofs.byte_bits.Statement.{statement}
 use Rattle.words.proofs.byte_bits.Tie as tie
 
@@ -16,10 +16,10 @@ loop-holds : tie.Need-loop-init invariant-loop decreases-loop
 loop-holds c = search (rules, bits_none)
 
 loop-again : tie.Need-loop-preserved invariant-loop decreases-loop
-loop-again c = search (rules, bits-more)
+loop-again c = search (rules, bits_more)
 
 returns : tie.Need-returns invariant-loop decreases-loop
-returns c = search (rules, bits-all)
+returns c = search (rules, bits_all)
 
 pub byte-bits-spec : {M : Type 1} → statement M
 byte-bits-spec =

@@ -1,7 +1,7 @@
 -- `words::load32` meets its contract: within the bytes it is the whole word; at the end, what there is of its halves.
 -- Assumes nothing.
 use Rattle.std.proofs.Common.{◌+◌, ◌≤◌, length, le_of_lt, arith, rules}
-use Rattle.words.proofs.Loads.{word-of-parts, word-clipped}
+use Rattle.words.proofs.Loads.{word_of_parts, word_clipped}
 use Rattle.words.proofs.Room.{is_within, not_within}
 use Rattle.words.proofs.load32.Statement.{statement}
 use Rattle.words.proofs.load32.Tie as tie
@@ -13,10 +13,10 @@ add-load16 c =
     omega arith
 
 returns-2 : tie.Need-returns-2
-returns-2 c = word-of-parts _ _ 2 2 c.before.before.before.load16.ensures c.load162.ensures
+returns-2 c = word_of_parts _ _ 2 2 c.before.before.before.load16.ensures c.load162.ensures
 
 returns-3 : tie.Need-returns-3
-returns-3 c = word-clipped _ _ 2 2 (le_of_lt (search (rules, not_within))) c.before.before.load16.ensures
+returns-3 c = word_clipped _ _ 2 2 (le_of_lt (search (rules, not_within))) c.before.before.load16.ensures
 
 pub load32-spec : {M : Type 1} → statement M
 load32-spec =

@@ -1,7 +1,7 @@
 -- `words::load64` meets its contract: within the bytes it is the whole word; at the end, what there is of its halves.
 -- Assumes nothing.
 use Rattle.std.proofs.Common.{◌+◌, ◌≤◌, length, le_of_lt, arith, rules}
-use Rattle.words.proofs.Loads.{word-of-parts, word-clipped}
+use Rattle.words.proofs.Loads.{word_of_parts, word_clipped}
 use Rattle.words.proofs.Room.{is_within, not_within}
 use Rattle.words.proofs.load64.Statement.{statement}
 use Rattle.words.proofs.load64.Tie as tie
@@ -13,10 +13,10 @@ add-load32 c =
     omega arith
 
 returns-2 : tie.Need-returns-2
-returns-2 c = word-of-parts _ _ 4 4 c.before.before.before.load32.ensures c.load322.ensures
+returns-2 c = word_of_parts _ _ 4 4 c.before.before.before.load32.ensures c.load322.ensures
 
 returns-3 : tie.Need-returns-3
-returns-3 c = word-clipped _ _ 4 4 (le_of_lt (search (rules, not_within))) c.before.before.load32.ensures
+returns-3 c = word_clipped _ _ 4 4 (le_of_lt (search (rules, not_within))) c.before.before.load32.ensures
 
 pub load64-spec : {M : Type 1} → statement M
 load64-spec =

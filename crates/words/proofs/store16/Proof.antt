@@ -1,7 +1,7 @@
 -- `words::store16` meets its contract: where there is room the whole word is stored; at the end, its first byte.
 -- Assumes nothing.
 use Rattle.std.proofs.Common.{◌+◌, ◌<◌, length, arith, rules}
-use Rattle.words.proofs.Stores.{store-clipped}
+use Rattle.words.proofs.Stores.{store_clipped}
 use Rattle.words.proofs.Room.{is_within, not_within}
 use Rattle.words.proofs.store16.Statement.{statement}
 use Rattle.words.proofs.store16.Tie as tie
@@ -10,7 +10,7 @@ returns-2 : tie.Need-returns-2
 returns-2 c =
     let a = c.before.before.before.before.before.before.before.args in
     let short : length a.out.now < a.at + 2 = search (rules, not_within) in
-    store-clipped a.out.now a.at 1 1 a.value (omega arith) c.before.before.store8.ensures
+    store_clipped a.out.now a.at 1 1 a.value (omega arith) c.before.before.store8.ensures
 
 pub store16-spec : {M : Type 1} → statement M
 store16-spec =

@@ -1,7 +1,7 @@
 -- `words::whole32` meets its contract: a word is made of its halves.
 -- Assumes nothing.
 use Rattle.std.proofs.Common.{rules}
-use Rattle.words.proofs.Loads.{word-of-parts}
+use Rattle.words.proofs.Loads.{word_of_parts}
 use Rattle.words.proofs.whole32.Statement.{statement}
 use Rattle.words.proofs.whole32.Tie as tie
 
@@ -11,4 +11,4 @@ whole32-spec =
     (tie.spec
     (λ c κs. search rules) (λ c. search rules) (λ c. search rules) (λ c κs. search rules)
     (λ c. search rules) (λ c. search rules) (λ c. search rules)
-    (λ c. word-of-parts _ _ 2 2 c.before.whole16.ensures c.whole162.ensures))
+    (λ c. word_of_parts _ _ 2 2 c.before.whole16.ensures c.whole162.ensures))

@@ -2,12 +2,12 @@
 -- Assumes nothing.
 use Rattle.std.proofs.Common.{◌+◌, sym, arith}
 use borrow.Author.Tests.{lt-leb}
-use Rattle.words.proofs.Room.{leb-left}
+use Rattle.words.proofs.Room.{leb_left}
 use Rattle.words.proofs.within.Statement.{statement}
 use Rattle.words.proofs.within.Tie as tie
 
 returns : tie.Need-returns
-returns c = leb-left _ _ _ c.if1.true
+returns c = leb_left _ _ _ c.if1.true
 
 returns-2 : tie.Need-returns-2
 returns-2 c = let a = c.before.args in sym (lt-leb (a.at + a.count) a.total (omega arith))

@@ -1,7 +1,7 @@
 -- `words::write32` meets its contract: a word is stored half by half.
 -- Assumes nothing.
 use Rattle.std.proofs.Common.{rules}
-use Rattle.words.proofs.Stores.{store-parts}
+use Rattle.words.proofs.Stores.{store_parts}
 use Rattle.words.proofs.write32.Statement.{statement}
 use Rattle.words.proofs.write32.Tie as tie
 
@@ -11,4 +11,4 @@ write32-spec =
     (tie.spec
     (λ c. search rules) (λ c κs. search rules) (λ c. search rules) (λ c. search rules)
     (λ c κs. search rules) (λ c. search rules)
-    (λ c. store-parts _ _ 2 2 _ c.before.before.before.before.before.before.write16.ensures c.before.before.write162.ensures))
+    (λ c. store_parts _ _ 2 2 _ c.before.before.before.before.before.before.write16.ensures c.before.before.write162.ensures))

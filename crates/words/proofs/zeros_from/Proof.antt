@@ -1,7 +1,7 @@
 -- `words::zeros_from` meets its contract. The loop's invariant: what is counted so far, with what the rest begins with, is the whole count.
 -- Assumes nothing.
 use Rattle.std.proofs.Common.{◌+◌, ◌-◌, ◌<◌, arith, rules}
-use Rattle.words.proofs.Fill.{Counted, counted_none, counted-zero, counted-other, counted-past, counted-all}
+use Rattle.words.proofs.Fill.{Counted, counted_none, counted_zero, counted_other, counted_past, counted_all}
 use Rattle.words.proofs.zeros_from.Statement.{statement}
 use Rattle.words.proofs.zeros_from.Tie as tie
 
@@ -15,18 +15,18 @@ loop-holds : tie.Need-loop-init invariant-loop decreases-loop
 loop-holds c = (omega arith, counted_none _ _ _)
 
 returns : tie.Need-returns invariant-loop decreases-loop
-returns c = counted-past _ _ _ _ c.before.before.loop.invariant.1 c.if1.true
+returns c = counted_past _ _ _ _ c.before.before.loop.invariant.1 c.if1.true
 
 returns-2 : tie.Need-returns-2 invariant-loop decreases-loop
 returns-2 c =
-    counted-other _ _ _ _ c.before.before.before.before.loop.invariant.1 c.before.before.before.loop-test.true c.before.before.if1.false c.if2.true
+    counted_other _ _ _ _ c.before.before.before.before.loop.invariant.1 c.before.before.before.loop-test.true c.before.before.if1.false c.if2.true
 
 loop-again : tie.Need-loop-preserved invariant-loop decreases-loop
 loop-again c =
-    (omega arith, counted-zero _ _ _ _ c.before.before.before.before.loop.invariant.1 c.before.before.before.loop-test.true c.before.before.if1.false c.if2.false)
+    (omega arith, counted_zero _ _ _ _ c.before.before.before.before.loop.invariant.1 c.before.before.before.loop-test.true c.before.before.if1.false c.if2.false)
 
 returns-3 : tie.Need-returns-3 invariant-loop decreases-loop
-returns-3 c = counted-all _ _ _ _ c.before.loop.invariant.1 c.loop-test.false
+returns-3 c = counted_all _ _ _ _ c.before.loop.invariant.1 c.loop-test.false
 
 pub zeros-from-spec : {M : Type 1} → statement M
 zeros-from-spec =

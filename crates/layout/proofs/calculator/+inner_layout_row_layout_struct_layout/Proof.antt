@@ -7,12 +7,12 @@ use native.Mathlib.Omega.{arith}
 use borrow.Author.Rules.{rules}
 use borrow.Fn.Kinds.{In}
 use borrow.Fn.PlainCycle.{Measures, is, falls, and}
-use Rattle.rules.specs.TypeTable.{typeTable, kindAt, aAt, bAt}
-use Rattle.rules.specs.Sizes.{layoutBelow}
-use Rattle.layout.proofs.Rows.{layout-by-kind}
-use Rattle.layout.proofs.Elements.{element-below, element-size, array-layout}
-use Rattle.layout.proofs.Members.{Placing, empty-struct, placing-first, next-below, placeable, closeable, placing-next, placing-last}
-use Rattle.layout.proofs.Keeping.{kept_row, inner-layable}
+use Rattle.rules.specs.TypeTable.{type_table, kind_at, a_at, b_at}
+use Rattle.rules.specs.Sizes.{layout_below}
+use Rattle.layout.proofs.Rows.{layout_by_kind}
+use Rattle.layout.proofs.Elements.{element_below, element_size, array_layout}
+use Rattle.layout.proofs.Members.{Placing, empty_struct, placing_first, next_below, placeable, closeable, placing_next, placing_last}
+use Rattle.layout.proofs.Keeping.{kept_row, inner_layable}
 use Rattle.layout.proofs.calculator.row_layout.Reads as row-layout
 use Rattle.layout.proofs.calculator.row_layout.Kinds as row-layout-kinds
 use Rattle.layout.proofs.calculator.+inner_layout_row_layout_struct_layout.Lts-row_layout as row-layout-lts
@@ -69,7 +69,7 @@ struct-layout-below t =
 
 abbrev struct-layout-Inv-loop : struct-layout-lts.invariant-loop
 struct-layout-Inv-loop rows members entries sizes alignments kept row next₀ left₀ so-far₀ next left so_far =
-    Placing (typeTable rows members entries) row next left so_far
+    Placing (type_table rows members entries) row next left so_far
 
 abbrev struct-layout-μ-loop : struct-layout-lts.decreases-loop
 struct-layout-μ-loop rows members entries sizes alignments kept row next₀ left₀ so-far₀ next left so_far = left
@@ -118,17 +118,17 @@ pub +inner-layout-row-layout-struct-layout-spec : {M : Type 1} → statement M
     -- an array: its element's row is below its own
     (λ c κs.
     let s = c.before.before.before.before.before.before in
-    let y = typeTable s.args.rows.now s.args.members.now s.args.entries.now in
-    let kind : kindAt y s.args.row ≡ 4 = sym c.before.before.kind_at.ensures ∙ c.match.keys1 in
-    let below = element-below y s.args.row kind s.requires.1.fits in
-    rw c.before.a_at.ensures (omega (arith, s.requires.0, below), inner-layable s.requires.1 (aAt y s.args.row) below))
+    let y = type_table s.args.rows.now s.args.members.now s.args.entries.now in
+    let kind : kind_at y s.args.row ≡ 4 = sym c.before.before.kind_at.ensures ∙ c.match.keys1 in
+    let below = element_below y s.args.row kind s.requires.1.fits in
+    rw c.before.a_at.ensures (omega (arith, s.requires.0, below), inner_layable s.requires.1 (a_at y s.args.row) below))
     (λ c κs. search rules)
     (λ c κs.
     let s = c.before.before.before.before.before.before.before.before in
-    let y = typeTable s.args.rows.now s.args.members.now s.args.entries.now in
-    let kind : kindAt y s.args.row ≡ 4 = sym c.before.before.before.before.kind_at.ensures ∙ c.before.before.match.keys1 in
+    let y = type_table s.args.rows.now s.args.members.now s.args.entries.now in
+    let kind : kind_at y s.args.row ≡ 4 = sym c.before.before.before.before.kind_at.ensures ∙ c.before.before.match.keys1 in
     rw (c.before.inner-layout.ensures, c.before.before.before.a_at.ensures)
-    (element-size y s.args.row kind s.requires.1.fits s.requires.1.sound))
+    (element_size y s.args.row kind s.requires.1.fits s.requires.1.sound))
     -- a struct
     (λ c κs.
     let s = c.before.before.before.before.before.before in
@@ -136,19 +136,19 @@ pub +inner-layout-row-layout-struct-layout-spec : {M : Type 1} → statement M
     (λ c κs. search rules)
     (λ c.
     let s = c.before.before.before.before.before.before.before.before.before in
-    let y = typeTable s.args.rows.now s.args.members.now s.args.entries.now in
-    let kind : kindAt y s.args.row ≡ 4 = sym c.before.before.before.before.before.kind_at.ensures ∙ c.before.before.before.match.keys1 in
+    let y = type_table s.args.rows.now s.args.members.now s.args.entries.now in
+    let kind : kind_at y s.args.row ≡ 4 = sym c.before.before.before.before.before.kind_at.ensures ∙ c.before.before.before.match.keys1 in
     rw (c.array-layout.ensures, c.before.before.inner-layout.ensures, c.before.b_at.ensures, c.before.before.before.before.a_at.ensures)
-    (sym (array-layout y s.args.row kind s.requires.1.fits)))
+    (sym (array_layout y s.args.row kind s.requires.1.fits)))
     (λ c. search rules)
     -- any other kind
     (λ c.
     let s = c.before.before.before.before.before.before.before in
-    let y = typeTable s.args.rows.now s.args.members.now s.args.entries.now in
+    let y = type_table s.args.rows.now s.args.members.now s.args.entries.now in
     let kind = c.before.before.before.kind_at in
     let a = c.before.before.a_at in
-    layout-by-kind y s.args.row kind.result a.result c.fixed-layout.result kind.ensures a.ensures
-    (c.fixed-layout.ensures y refl (layoutBelow y s.args.row))))
+    layout_by_kind y s.args.row kind.result a.result c.fixed-layout.result kind.ensures a.ensures
+    (c.fixed-layout.ensures y refl (layout_below y s.args.row))))
     (λ t. struct-layout-lts.spec (
       a-at-reads.Asked,
       a-at-reads.Learnt,
@@ -172,22 +172,22 @@ pub +inner-layout-row-layout-struct-layout-spec : {M : Type 1} → statement M
     -- an empty struct
     (λ c.
     let s = c.before.before.before.before.before.before in
-    let y = typeTable s.args.rows.now s.args.members.now s.args.entries.now in
-    sym (empty-struct y s.args.row s.requires.1.1 (sym c.before.b_at.ensures ∙ c.if1.true)))
+    let y = type_table s.args.rows.now s.args.members.now s.args.entries.now in
+    sym (empty_struct y s.args.row s.requires.1.1 (sym c.before.b_at.ensures ∙ c.if1.true)))
     (λ c.
     let s = c.before.before.before.before.before.before in
-    let y = typeTable s.args.rows.now s.args.members.now s.args.entries.now in
+    let y = type_table s.args.rows.now s.args.members.now s.args.entries.now in
     let l = s.requires.1.0 in
-    let some : 0 < bAt y s.args.row = omega (arith, c.before.b_at.ensures) in
+    let some : 0 < b_at y s.args.row = omega (arith, c.before.b_at.ensures) in
     rw (c.before.before.a_at.ensures, c.before.b_at.ensures)
-    (placing-first y s.args.row l.sound l.fits s.requires.1.1 (omega (arith, l.few)) some))
+    (placing_first y s.args.row l.sound l.fits s.requires.1.1 (omega (arith, l.few)) some))
     (λ c. search rules)
     (λ c κs. search rules)
     -- a member: its row is below the struct's
     (λ c κs.
     let s = c.before.before.before.before.before.before.before.before.before in
-    let below = next-below c.before.before.loop.invariant (omega arith) in
-    rw c.row_of.ensures (omega (arith, s.requires.0, below), inner-layable s.requires.1.0 _ below))
+    let below = next_below c.before.before.loop.invariant (omega arith) in
+    rw c.row_of.ensures (omega (arith, s.requires.0, below), inner_layable s.requires.1.0 _ below))
     (λ c κs.
     placeable c.before.before.before.loop.invariant (omega arith) c.inner-layout.result (rw (c.inner-layout.ensures, c.before.row_of.ensures)))
     (λ c. omega arith)
@@ -195,7 +195,7 @@ pub +inner-layout-row-layout-struct-layout-spec : {M : Type 1} → statement M
     (λ c. omega arith)
     (λ c.
     rw c.place.ensures
-    (placing-next c.before.before.before.before.loop.invariant (omega arith) c.before.inner-layout.result
+    (placing_next c.before.before.before.before.loop.invariant (omega arith) c.before.inner-layout.result
     (rw (c.before.inner-layout.ensures, c.before.before.row_of.ensures))))
     (λ c κs. closeable c.before.loop.invariant)
-    (λ c. c.close.ensures ∙ placing-last c.before.before.loop.invariant (omega arith)))
+    (λ c. c.close.ensures ∙ placing_last c.before.before.loop.invariant (omega arith)))

@@ -7,18 +7,18 @@ use Prim.Native.Nat.{ℕ, suc, ◌^◌}
 use borrow.Author.Rules.{rules}
 use borrow.Author.Tests.{ne_eqb}
 use Rattle.rules.specs.TypeTable.{TypeTable}
-use Rattle.rules.specs.Sound.{entriesExist, risingEntries, widthAllowed}
+use Rattle.rules.specs.Sound.{entries_exist, rising_entries, width_allowed}
 use Rattle.layout.proofs.kinds.entries_fit.Statement.{statement}
 use Rattle.layout.proofs.kinds.entries_fit.Tie as tie
 
 abbrev Rises : (entries : List ℕ) (largest first count : ℕ) → Bool → Type 0
 Rises entries largest first count r = (t : TypeTable) → t.entries ≡ entries → (width : ℕ) → 256 ^ width ≡ suc largest
-    → r ≡ (entriesExist t first count && risingEntries t width first count 0)
+    → r ≡ (entries_exist t first count && rising_entries t width first count 0)
 
 -- Entries of a width that is `known` to be a number's.
-of_width : (known width : ℕ) (entries : List ℕ) (first count : ℕ) (r : Bool) (largest : ℕ) → width ≡ known → widthAllowed known ≡ true
+of_width : (known width : ℕ) (entries : List ℕ) (first count : ℕ) (r : Bool) (largest : ℕ) → width ≡ known → width_allowed known ≡ true
     → 256 ^ known ≡ suc largest → Rises entries largest first count r
-    → (t : TypeTable) → t.entries ≡ entries → r ≡ (widthAllowed width && (entriesExist t first count && risingEntries t width first count 0))
+    → (t : TypeTable) → t.entries ≡ entries → r ≡ (width_allowed width && (entries_exist t first count && rising_entries t width first count 0))
 of_width known width entries first count r largest e allowed bound rises t same = rw (e, allowed) (rises t same known bound)
 
 other_width : tie.Need-returns-5

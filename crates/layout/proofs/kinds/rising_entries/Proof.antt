@@ -1,4 +1,4 @@
--- `layout::kinds::rising_entries` meets its contract: a turn is one step of `risingEntries`.
+-- `layout::kinds::rising_entries` meets its contract: a turn is one step of `rising_entries`.
 -- Assumes nothing.
 use mathlib.Core.Bool.{Bool, true, false, ◌&&◌, ◌||◌}
 use mathlib.Core.Path.{◌≡◌, refl, sym, ◌∙◌}
@@ -9,23 +9,23 @@ use lib.ListN.{length}
 use borrow.Author.Rules.{rules}
 use borrow.Author.Tests.{not-true, not-false, le-leb, lt-leb, eq-eqb, ne_eqb}
 use Rattle.rules.specs.TypeTable.{TypeTable}
-use Rattle.rules.specs.Sound.{entriesExist, risingEntries}
-use Rattle.layout.proofs.Rows.{entries-step, entries_none}
+use Rattle.rules.specs.Sound.{entries_exist, rising_entries}
+use Rattle.layout.proofs.Rows.{entries_step, entries_none}
 use Rattle.layout.proofs.kinds.rising_entries.Statement.{statement}
 use Rattle.layout.proofs.kinds.rising_entries.Tie as tie
 
 -- The least that the next entry may be: anything at first, then more than the entry before it.
-abbrev leastOf : (first : Bool) (before : ℕ) → ℕ
-leastOf true before = 0
-leastOf false before = suc before
+abbrev least_of : (first : Bool) (before : ℕ) → ℕ
+least_of true before = 0
+least_of false before = suc before
 
 abbrev asked : TypeTable → (width first count : ℕ) → Bool
-asked t width first count = entriesExist t first count && risingEntries t width first count 0
+asked t width first count = entries_exist t first count && rising_entries t width first count 0
 
 abbrev invariant-loop : tie.invariant-loop
 invariant-loop entries largest first count next₀ left₀ before₀ next left before =
     ((t : TypeTable) → t.entries ≡ entries → (width : ℕ) → 256 ^ width ≡ suc largest
-    → asked t width first count ≡ risingEntries t width next left (leastOf (eqb left count) before))
+    → asked t width first count ≡ rising_entries t width next left (least_of (eqb left count) before))
     × (next + left ≡ first + count)
     × (left ≤ count)
 
@@ -33,7 +33,7 @@ abbrev decreases-loop : tie.decreases-loop
 decreases-loop entries largest first count next₀ left₀ before₀ next left before = left
 
 -- The code's tests of an entry are the rules'.
-least-test : (first : Bool) (before entry : ℕ) → leb (leastOf first before) entry ≡ (first || ltb before entry)
+least-test : (first : Bool) (before entry : ℕ) → leb (least_of first before) entry ≡ (first || ltb before entry)
 least-test true before entry = le-leb 0 entry (omega arith)
 least-test false before entry = refl
 
@@ -54,12 +54,12 @@ turn : (c : tie.After-value-at invariant-loop decreases-loop) (good : Bool)
     → let i = c.before.before.loop in let a = c.before.before.before.before.before.args in
     ((eqb i.left a.count || ltb i.before c.value-at.result) && leb c.value-at.result a.largest) ≡ good
     → (t : TypeTable) → t.entries ≡ a.entries.now → (width : ℕ) → 256 ^ width ≡ suc a.largest
-    → asked t width a.first a.count ≡ (good && risingEntries t width (i.next + 1) (i.left - 1) (suc c.value-at.result))
+    → asked t width a.first a.count ≡ (good && rising_entries t width (i.next + 1) (i.left - 1) (suc c.value-at.result))
 turn c good test t same width e =
     let i = c.before.before.loop in let a = c.before.before.before.before.before.args in
     let v = c.value-at.result in
     i.invariant.0 t same width e
-    ∙ entries-step t width i.next i.left (leastOf (eqb i.left a.count) i.before) (omega arith)
+    ∙ entries_step t width i.next i.left (least_of (eqb i.left a.count) i.before) (omega arith)
     ∙ rw (same, ← c.value-at.ensures, least-test (eqb i.left a.count) i.before v, width-test v a.largest (256 ^ width) e, test)
 
 returns-2 : tie.Need-returns-2 invariant-loop decreases-loop

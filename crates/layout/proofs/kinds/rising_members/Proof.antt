@@ -1,4 +1,4 @@
--- `layout::kinds::rising_members` meets its contract: a turn is one step of `risingMembers`.
+-- `layout::kinds::rising_members` meets its contract: a turn is one step of `rising_members`.
 -- Assumes nothing.
 use mathlib.Core.Bool.{Bool, true, false, ◌&&◌}
 use mathlib.Core.Path.{◌≡◌, sym, ◌∙◌}
@@ -9,17 +9,17 @@ use lib.ListN.{length}
 use borrow.Author.Rules.{rules}
 use borrow.Author.Tests.{not-true, not-false, le-leb, lt-leb}
 use Rattle.rules.specs.TypeTable.{TypeTable}
-use Rattle.rules.specs.Sound.{membersExist, risingMembers}
+use Rattle.rules.specs.Sound.{members_exist, rising_members}
 use Rattle.layout.proofs.Rows.{rising_step, rising_none}
 use Rattle.layout.proofs.kinds.rising_members.Statement.{statement}
 use Rattle.layout.proofs.kinds.rising_members.Tie as tie
 
 abbrev asked : TypeTable → (first count : ℕ) → Bool
-asked t first count = membersExist t first count && risingMembers t first count 0
+asked t first count = members_exist t first count && rising_members t first count 0
 
 abbrev invariant-loop : tie.invariant-loop
 invariant-loop rows members first count row_count next₀ left₀ before₀ next left before =
-    ((t : TypeTable) → t.rows ≡ rows → t.members ≡ members → asked t first count ≡ risingMembers t next left before) × (next + left ≡ first + count)
+    ((t : TypeTable) → t.rows ≡ rows → t.members ≡ members → asked t first count ≡ rising_members t next left before) × (next + left ≡ first + count)
 
 abbrev decreases-loop : tie.decreases-loop
 decreases-loop rows members first count row_count next₀ left₀ before₀ next left before = left
@@ -39,7 +39,7 @@ turn : (c : tie.After-row-of invariant-loop decreases-loop) (good : Bool)
     → let i = c.before.before.before.loop in let a = c.before.before.before.before.before.before.before.args in
     (ltb i.before c.before.ordinal-at.result && ltb c.row_of.result (length a.rows.now / 4)) ≡ good
     → (t : TypeTable) → t.rows ≡ a.rows.now → t.members ≡ a.members.now
-    → asked t a.first a.count ≡ (good && risingMembers t (i.next + 1) (i.left - 1) c.before.ordinal-at.result)
+    → asked t a.first a.count ≡ (good && rising_members t (i.next + 1) (i.left - 1) c.before.ordinal-at.result)
 turn c good e t same_rows same =
     let i = c.before.before.before.loop in let a = c.before.before.before.before.before.before.before.args in
     i.invariant.0 t same_rows same

@@ -1,4 +1,4 @@
--- `layout::kinds::struct_members` meets its contract: a turn is one step of `structMembers`.
+-- `layout::kinds::struct_members` meets its contract: a turn is one step of `struct_members`.
 -- Assumes nothing.
 use mathlib.Core.Bool.{Bool, true, false, ◌&&◌}
 use mathlib.Core.Path.{◌≡◌, sym, ◌∙◌}
@@ -9,17 +9,17 @@ use lib.ListN.{length}
 use borrow.Author.Rules.{rules}
 use borrow.Author.Tests.{not-true, not-false, le-leb, lt-leb}
 use Rattle.rules.specs.TypeTable.{TypeTable}
-use Rattle.rules.specs.Sound.{membersExist, structMembers}
-use Rattle.layout.proofs.Rows.{struct-step, struct-none}
+use Rattle.rules.specs.Sound.{members_exist, struct_members}
+use Rattle.layout.proofs.Rows.{struct_step, struct_none}
 use Rattle.layout.proofs.kinds.struct_members.Statement.{statement}
 use Rattle.layout.proofs.kinds.struct_members.Tie as tie
 
 abbrev asked : TypeTable → (row first count : ℕ) → Bool
-asked t row first count = membersExist t first count && structMembers t row first count 1
+asked t row first count = members_exist t first count && struct_members t row first count 1
 
 abbrev invariant-loop : tie.invariant-loop
 invariant-loop members row first count next₀ left₀ ordinal₀ next left ordinal =
-    ((t : TypeTable) → t.members ≡ members → asked t row first count ≡ structMembers t row next left ordinal)
+    ((t : TypeTable) → t.members ≡ members → asked t row first count ≡ struct_members t row next left ordinal)
     × (next + left ≡ first + count)
     × (ordinal + left ≡ count + 1)
 
@@ -41,11 +41,11 @@ turn : (c : tie.After-row-of invariant-loop decreases-loop) (good : Bool)
     → let i = c.before.before.before.loop in let a = c.before.before.before.before.before.before.args in
     (eqb c.before.ordinal-at.result i.ordinal && ltb c.row_of.result a.row) ≡ good
     → (t : TypeTable) → t.members ≡ a.members.now
-    → asked t a.row a.first a.count ≡ (good && structMembers t a.row (i.next + 1) (i.left - 1) (i.ordinal + 1))
+    → asked t a.row a.first a.count ≡ (good && struct_members t a.row (i.next + 1) (i.left - 1) (i.ordinal + 1))
 turn c good e t same =
     let i = c.before.before.before.loop in let a = c.before.before.before.before.before.before.args in
     i.invariant.0 t same
-    ∙ struct-step t a.row i.next i.left i.ordinal (omega arith)
+    ∙ struct_step t a.row i.next i.left i.ordinal (omega arith)
     ∙ rw (same, ← c.before.ordinal-at.ensures, ← c.row_of.ensures, e)
 
 returns-2 : tie.Need-returns-2 invariant-loop decreases-loop
@@ -58,7 +58,7 @@ returns-3 : tie.Need-returns-3 invariant-loop decreases-loop
 returns-3 c = λ t same.
     let i = c.before.loop in let a = c.before.before.before.before.args in
     let none : i.left ≡ 0 = omega arith in
-    sym (i.invariant.0 t same ∙ rw none (struct-none t a.row i.next i.ordinal))
+    sym (i.invariant.0 t same ∙ rw none (struct_none t a.row i.next i.ordinal))
 
 pub struct-members-spec : {M : Type 1} → statement M
 struct-members-spec =

@@ -1,6 +1,6 @@
 -- `layout::sizes::fixed_layout` meets its contract: the kind picks its line of the section "Sizes".
 -- Assumes nothing.
-use Rattle.rules.specs.Sizes.{layoutAs}
+use Rattle.rules.specs.Sizes.{layout_as}
 use Rattle.layout.proofs.sizes.fixed_layout.Statement.{statement}
 use Rattle.layout.proofs.sizes.fixed_layout.Tie as tie
 
@@ -10,7 +10,7 @@ record-requires c κs =
     (rest.0.0.0.0.1, rest.0.0.0.1, rest.0.0.1, c.before.requires.0, c.before.requires.1, rest.0.1, rest.1)
 
 pub fixed-layout-spec : {M : Type 1} → statement M
-unfolding layoutAs
+unfolding layout_as
 fixed-layout-spec =
     tie.close
     (tie.spec

@@ -3,13 +3,13 @@
 use native.Mathlib.Omega.{arith}
 use borrow.Author.Rules.{rules}
 use Rattle.rules.specs.Bytes.{round_up}
-use Rattle.layout.proofs.Bounds.{eight-left}
+use Rattle.layout.proofs.Bounds.{eight_left}
 use Rattle.layout.proofs.sizes.round_up.Statement.{statement}
 use Rattle.layout.proofs.sizes.round_up.Tie as tie
 
 eight : tie.Need-returns-4
 unfolding round_up
-eight c = let rest = c.match.rest in rw (eight-left c.before.requires.0 rest.0.0.1 rest.0.1 rest.1)
+eight c = let rest = c.match.rest in rw (eight_left c.before.requires.0 rest.0.0.1 rest.0.1 rest.1)
 
 pub round-up-spec : {M : Type 1} → statement M
 unfolding round_up

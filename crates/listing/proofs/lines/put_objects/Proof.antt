@@ -4,15 +4,15 @@
 use Prim.Native.Nat.{◌*◌, ◌-◌, ◌≤◌}
 use native.Mathlib.Omega.{arith}
 use lib.ListN.{length, drop}
-use Rattle.listing.specs.Lines.{objectLines}
-use Rattle.listing.proofs.Putting.{Goes, goes-start, goes_on, goes_end, object-left, objects-end}
+use Rattle.listing.specs.Lines.{object_lines}
+use Rattle.listing.proofs.Putting.{Goes, goes-start, goes_on, goes_end, object-left, objects_end}
 use Rattle.listing.proofs.lines.put_objects.Statement.{statement}
 use Rattle.listing.proofs.lines.put_objects.Tie as tie
 
 abbrev invariant-loop : tie.invariant-loop
 invariant-loop out₀ at objects next₀ i₀ out next i =
     (i ≤ length objects)
-    × Goes out₀ at (objectLines objects) (23 * length objects) out next (objectLines (drop i objects)) (23 * (length objects - i))
+    × Goes out₀ at (object_lines objects) (23 * length objects) out next (object_lines (drop i objects)) (23 * (length objects - i))
 
 abbrev decreases-loop : tie.decreases-loop
 decreases-loop out₀ at objects next₀ i₀ out next i = length objects - i
@@ -38,4 +38,4 @@ put-objects-spec =
     (λ c. omega arith) (λ c. omega arith)
     loop-again
     (λ c. c.before.loop.invariant.1.long)
-    (λ c. goes_end c.before.loop.invariant.1 (objects-end c.before.before.before.before.args.objects.now c.before.loop.i (omega arith))))
+    (λ c. goes_end c.before.loop.invariant.1 (objects_end c.before.before.before.before.args.objects.now c.before.loop.i (omega arith))))

@@ -5,15 +5,15 @@ use Prim.Native.Nat.{◌*◌, ◌-◌, ◌≤◌}
 use native.Mathlib.Omega.{arith}
 use borrow.Author.Rules.{rules}
 use lib.ListN.{length, drop}
-use Rattle.listing.specs.Lines.{valueLines}
-use Rattle.listing.proofs.Putting.{Goes, goes-start, goes_on, goes_end, value-left, values-end}
+use Rattle.listing.specs.Lines.{value_lines}
+use Rattle.listing.proofs.Putting.{Goes, goes-start, goes_on, goes_end, value-left, values_end}
 use Rattle.listing.proofs.lines.put_values.Statement.{statement}
 use Rattle.listing.proofs.lines.put_values.Tie as tie
 
 abbrev invariant-loop : tie.invariant-loop
 invariant-loop out₀ at values next₀ i₀ out next i =
     (i ≤ length values)
-    × Goes out₀ at (valueLines values) (27 * length values) out next (valueLines (drop i values)) (27 * (length values - i))
+    × Goes out₀ at (value_lines values) (27 * length values) out next (value_lines (drop i values)) (27 * (length values - i))
 
 abbrev decreases-loop : tie.decreases-loop
 decreases-loop out₀ at values next₀ i₀ out next i = length values - i
@@ -39,4 +39,4 @@ put-values-spec =
     (λ c. omega arith) (λ c. omega arith)
     loop-again
     (λ c. c.before.loop.invariant.1.long)
-    (λ c. goes_end c.before.loop.invariant.1 (values-end c.before.before.before.before.args.values.now c.before.loop.i (omega arith))))
+    (λ c. goes_end c.before.loop.invariant.1 (values_end c.before.before.before.before.args.values.now c.before.loop.i (omega arith))))

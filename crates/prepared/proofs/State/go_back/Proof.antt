@@ -8,30 +8,30 @@ use lib.Seq.{length-take-le}
 use borrow.Author.Rules.{rules}
 use borrow.Author.Tests.{not-true, not-false}
 use Rattle.rules.specs.Refusals.{accepted}
-use Rattle.rules.specs.TypeTable.{typeTable}
+use Rattle.rules.specs.TypeTable.{type_table}
 use Rattle.rules.specs.Sound.{soundness}
-use Rattle.layout.proofs.Keeping.{verdict-sound, verdict-refused}
+use Rattle.layout.proofs.Keeping.{verdict_sound, verdict_refused}
 use Rattle.prepared.specs.States.{start}
-use Rattle.prepared.specs.Operations.{counts, countsWithin, cut_to, wentBack}
-use Rattle.prepared.proofs.States.{cut-compared}
-use Rattle.prepared.proofs.Operations.{told, Within, counts-within, back-past, back-unsound, back-disagreed, back_done, prepared-verdict}
+use Rattle.prepared.specs.Operations.{counts, counts_within, cut_to, went_back}
+use Rattle.prepared.proofs.States.{cut_compared}
+use Rattle.prepared.proofs.Operations.{told, Within, counts_within_lem, back_past, back_unsound, back_disagreed, back_done, prepared_verdict}
 use Rattle.prepared.proofs.State.go_back.Statement.{statement}
 use Rattle.prepared.proofs.State.go_back.Tie as tie
 
 returns : tie.Need-returns
 returns c =
     let a = c.before.before.before.before.before.before.before.before.args in
-    let t = typeTable a.rows.now a.members.now a.entries.now in
+    let t = type_table a.rows.now a.members.now a.entries.now in
     let n = counts a.to-rows a.to-members a.to-entries in
-    told (wentBack a.self t n) a.self (c.refusal.ensures ∙ back-past a.self t n (not-true _ c.before.if1.true))
+    told (went_back a.self t n) a.self (c.refusal.ensures ∙ back_past a.self t n (not-true _ c.before.if1.true))
 
 passed : (c : tie.Else1) → let a = c.before.before.before.before.before.before.before.args in
-    countsWithin (counts a.to-rows a.to-members a.to-entries) a.self (typeTable a.rows.now a.members.now a.entries.now) ≡ true
+    counts_within (counts a.to-rows a.to-members a.to-entries) a.self (type_table a.rows.now a.members.now a.entries.now) ≡ true
 passed c = not-false _ c.if1.false
 
 within : (c : tie.Else1) → let a = c.before.before.before.before.before.before.before.args in
-    Within a.self (typeTable a.rows.now a.members.now a.entries.now) (counts a.to-rows a.to-members a.to-entries)
-within c = let a = c.before.before.before.before.before.before.before.args in counts-within a.self _ _ (passed c)
+    Within a.self (type_table a.rows.now a.members.now a.entries.now) (counts a.to-rows a.to-members a.to-entries)
+within c = let a = c.before.before.before.before.before.before.before.args in counts_within_lem a.self _ _ (passed c)
 
 mul-prepare : tie.Need-overflow-mul-prepare
 mul-prepare c = omega (arith, (within c).rows)
@@ -53,43 +53,43 @@ slice-aggregate-prepare-3 c =
 returns-2 : tie.Need-returns-2
 returns-2 c =
     let a = c.before.before.before.before.before.before.before.before.before.before.before.before.before.before.before.args in
-    let t = typeTable a.rows.now a.members.now a.entries.now in
+    let t = type_table a.rows.now a.members.now a.entries.now in
     let n = counts a.to-rows a.to-members a.to-entries in
     let p = c.before.before.before.before.prepare in
     let f = c.before.before.verdict.given.0.0 in
-    told (wentBack a.self t n) a.self
+    told (went_back a.self t n) a.self
     (c.refusal2.ensures
-    ∙ back-unsound a.self t n (passed c.before.before.before.before.before.before.before.before) f
-    (verdict-refused (cut_to n t) p.result.verdict f (prepared-verdict (cut_to n t) start p.result p.ensures.0) (search rules)))
+    ∙ back_unsound a.self t n (passed c.before.before.before.before.before.before.before.before) f
+    (verdict_refused (cut_to n t) p.result.verdict f (prepared_verdict (cut_to n t) start p.result p.ensures.0) (search rules)))
 
 sound : (c : tie.After-enum-told) → let a = c.before.before.before.before.before.before.before.before.before.before.before.before.before.args in
-    soundness (cut_to (counts a.to-rows a.to-members a.to-entries) (typeTable a.rows.now a.members.now a.entries.now)) ≡ accepted tt
+    soundness (cut_to (counts a.to-rows a.to-members a.to-entries) (type_table a.rows.now a.members.now a.entries.now)) ≡ accepted tt
 sound c =
     let a = c.before.before.before.before.before.before.before.before.before.before.before.before.before.args in
-    let t = typeTable a.rows.now a.members.now a.entries.now in
+    let t = type_table a.rows.now a.members.now a.entries.now in
     let n = counts a.to-rows a.to-members a.to-entries in
     let p = c.before.before.prepare in
-    verdict-sound (cut_to n t) p.result.verdict (prepared-verdict (cut_to n t) start p.result p.ensures.0) (search rules)
+    verdict_sound (cut_to n t) p.result.verdict (prepared_verdict (cut_to n t) start p.result p.ensures.0) (search rules)
 
 returns-3 : tie.Need-returns-3
 returns-3 c =
     let a = c.before.before.before.before.before.before.before.before.before.before.before.before.before.before.before.before.args in
-    let t = typeTable a.rows.now a.members.now a.entries.now in
+    let t = type_table a.rows.now a.members.now a.entries.now in
     let n = counts a.to-rows a.to-members a.to-entries in
-    told (wentBack a.self t n) a.self
+    told (went_back a.self t n) a.self
     (c.before.before.before.before.before.prepare.ensures.0
     ∙ back_done a.self t n (passed c.before.before.before.before.before.before.before.before.before) start (sound c.before.before.before)
-    (cut-compared a.self t c.before.before.cut-state.ensures c.before.same-state.ensures ∙ c.if2.true))
+    (cut_compared a.self t c.before.before.cut-state.ensures c.before.same-state.ensures ∙ c.if2.true))
 
 returns-4 : tie.Need-returns-4
 returns-4 c =
     let a = c.before.before.before.before.before.before.before.before.before.before.before.before.before.before.before.before.before.before.args in
-    let t = typeTable a.rows.now a.members.now a.entries.now in
+    let t = type_table a.rows.now a.members.now a.entries.now in
     let n = counts a.to-rows a.to-members a.to-entries in
-    told (wentBack a.self t n) a.self
+    told (went_back a.self t n) a.self
     (rw (c.refusal3.ensures, c.before.disagreement.ensures)
-    (back-disagreed a.self t n (passed c.before.before.before.before.before.before.before.before.before.before.before) (sound c.before.before.before.before.before)
-    (cut-compared a.self t c.before.before.before.before.cut-state.ensures c.before.before.before.same-state.ensures ∙ c.before.before.if2.false)))
+    (back_disagreed a.self t n (passed c.before.before.before.before.before.before.before.before.before.before.before) (sound c.before.before.before.before.before)
+    (cut_compared a.self t c.before.before.before.before.cut-state.ensures c.before.before.before.same-state.ensures ∙ c.before.before.if2.false)))
 
 pub go-back-spec : {M : Type 1} → statement M
 go-back-spec =

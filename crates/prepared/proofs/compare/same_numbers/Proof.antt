@@ -5,7 +5,7 @@ use Prim.Native.Nat.{◌-◌, ◌≤◌, ◌<◌}
 use native.Mathlib.Omega.{arith}
 use lib.ListN.{length}
 use borrow.Author.Rules.{rules}
-use Rattle.prepared.proofs.Comparing.{SameSoFar, same_first, same_next, same-last}
+use Rattle.prepared.proofs.Comparing.{SameSoFar, same_first, same_next, same_last}
 use Rattle.prepared.proofs.compare.same_numbers.Statement.{statement}
 use Rattle.prepared.proofs.compare.same_numbers.Tie as tie
 
@@ -26,7 +26,7 @@ returns : tie.Need-returns invariant-loop decreases-loop
 returns c =
     let i = c.before.loop in
     let whole = i.invariant.1.1 (omega arith) in
-    same-last _ _ i.at i.same (whole.0 ∙ sym whole.1) (omega (arith, whole.0)) i.invariant.0
+    same_last _ _ i.at i.same (whole.0 ∙ sym whole.1) (omega (arith, whole.0)) i.invariant.0
 
 pub same-numbers-spec : {M : Type 1} → statement M
 same-numbers-spec =

@@ -3,25 +3,25 @@
 use native.Mathlib.Omega.{arith}
 use borrow.Author.Rules.{rules}
 use borrow.Author.Tests.{not-true, not-false}
-use Rattle.reader.proofs.Roots.{table-refused, root-refused, length-refused, handles-refused, walk-allowed}
+use Rattle.reader.proofs.Roots.{table_refused, root_refused, length_refused, handles_refused, walk_allowed}
 use Rattle.reader.proofs.pass.before.Statement.{statement}
 use Rattle.reader.proofs.pass.before.Tie as tie
 
 returns : tie.Need-returns
-returns c = search (rules, table-refused)
+returns c = search (rules, table_refused)
 
 returns-2 : tie.Need-returns-2
 returns-2 c =
     let root = c.before in
     let a = root.before.before.before.before.args in
-    root-refused _ _ _ a.length a.handles root.before.enum_told.given.1 root.root-allowed.ensures (not-true _ c.if1.true)
+    root_refused _ _ _ a.length a.handles root.before.enum_told.given.1 root.root-allowed.ensures (not-true _ c.if1.true)
 
 returns-3 : tie.Need-returns-3
 returns-3 c =
     let allowed = c.before.before in
     let root = allowed.before in
     let a = root.before.before.before.before.args in
-    length-refused _ _ _ a.length a.handles root.before.enum_told.given.1 root.root-allowed.ensures (not-false _ allowed.if1.false)
+    length_refused _ _ _ a.length a.handles root.before.enum_told.given.1 root.root-allowed.ensures (not-false _ allowed.if1.false)
     (omega (arith, c.before.if2.true)) c.fault-at.ensures
 
 returns-4 : tie.Need-returns-4
@@ -29,7 +29,7 @@ returns-4 c =
     let allowed = c.before.before in
     let root = allowed.before in
     let a = root.before.before.before.before.args in
-    handles-refused _ _ _ a.length a.handles root.before.enum_told.given.1 root.root-allowed.ensures (not-false _ allowed.if1.false)
+    handles_refused _ _ _ a.length a.handles root.before.enum_told.given.1 root.root-allowed.ensures (not-false _ allowed.if1.false)
     (omega (arith, c.before.if2.false)) (omega (arith, c.if3.true))
 
 returns-5 : tie.Need-returns-5
@@ -37,7 +37,7 @@ returns-5 c =
     let allowed = c.before.before in
     let root = allowed.before in
     let a = root.before.before.before.before.args in
-    walk-allowed _ _ _ a.length a.handles root.before.enum_told.given.1 root.root-allowed.ensures (not-false _ allowed.if1.false)
+    walk_allowed _ _ _ a.length a.handles root.before.enum_told.given.1 root.root-allowed.ensures (not-false _ allowed.if1.false)
     (omega (arith, c.before.if2.false)) (omega (arith, c.if3.false))
 
 pub before-spec : {M : Type 1} → statement M

@@ -1,7 +1,7 @@
 -- `reader::pass::judge` meets its contract: the tests before the walk, and a pass that stores nothing.
 -- Assumes nothing.
 use borrow.Author.Rules.{rules}
-use Rattle.reader.proofs.Judging.{judge-refused, judge-walkable, judge-passed}
+use Rattle.reader.proofs.Judging.{judge_refused, judge_walkable, judge_passed}
 use Rattle.reader.proofs.pass.judge.Statement.{statement}
 use Rattle.reader.proofs.pass.judge.Tie as tie
 
@@ -9,7 +9,7 @@ returns : tie.Need-returns
 returns c =
     let tested = c.before.before.before in
     let prepared = tested.before in (
-      judge-refused _ _ _ _ _ _ prepared.climb.ensures.0 tested.before2.ensures c.before.f.given.1,
+      judge_refused _ _ _ _ _ _ prepared.climb.ensures.0 tested.before2.ensures c.before.f.given.1,
       prepared.climb.ensures.1,
     )
 
@@ -18,7 +18,7 @@ pass-requires c κs =
     let allowed = c.before.before.before.before in
     let tested = allowed.before.before in
     let prepared = tested.before in
-    judge-walkable _ _ _ _ _ _ prepared.climb.ensures.0 tested.before2.ensures allowed.enum_told.given.1 _ _
+    judge_walkable _ _ _ _ _ _ prepared.climb.ensures.0 tested.before2.ensures allowed.enum_told.given.1 _ _
     prepared.climb.ensures.1.0 prepared.climb.ensures.1.1
 
 returns-2 : tie.Need-returns-2
@@ -27,7 +27,7 @@ returns-2 c =
     let allowed = walked.before.before.before.before.before in
     let tested = allowed.before.before in
     let prepared = tested.before in (
-      judge-passed _ _ _ _ _ _ prepared.climb.ensures.0 tested.before2.ensures allowed.enum_told.given.1 walked.pass.ensures,
+      judge_passed _ _ _ _ _ _ prepared.climb.ensures.0 tested.before2.ensures allowed.enum_told.given.1 walked.pass.ensures,
       prepared.climb.ensures.1,
     )
 

@@ -1,7 +1,7 @@
 -- `reader::pass::pass` meets its contract: the walk is refused, or what comes after it answers.
 -- Assumes nothing.
 use borrow.Author.Rules.{rules}
-use Rattle.reader.proofs.Passes.{walk_refused, walk-ended}
+use Rattle.reader.proofs.Passes.{walk_refused, walk_ended}
 use Rattle.reader.proofs.pass.pass.Statement.{statement}
 use Rattle.reader.proofs.pass.pass.Tie as tie
 
@@ -9,7 +9,7 @@ returns : tie.Need-returns
 returns c = search (rules, walk_refused)
 
 returns-2 : tie.Need-returns-2
-returns-2 c = search (rules, walk-ended)
+returns-2 c = search (rules, walk_ended)
 
 pub pass_spec : {M : Type 1} → statement M
 pass_spec =

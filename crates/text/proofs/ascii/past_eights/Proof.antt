@@ -6,7 +6,7 @@ use borrow.Author.Rules.{rules}
 use borrow.Author.Tests.{not-false}
 use lib.ListN.{length}
 use Rattle.text.specs.Sequences.{Passes}
-use Rattle.text.proofs.Laws.{nothing-passed, both-passed}
+use Rattle.text.proofs.Laws.{nothing_passed, both-passed}
 use Rattle.text.proofs.ascii.past_eights.Statement.{statement}
 use Rattle.text.proofs.ascii.past_eights.Tie as tie
 
@@ -25,5 +25,5 @@ pub past-eights-spec : {M : Type 1} → statement M
 past-eights-spec =
     tie.close
     (tie.spec
-    invariant-loop decreases-loop (λ c. search (rules, nothing-passed)) (λ c. search rules) (λ c κs. search rules) (λ c. search rules)
+    invariant-loop decreases-loop (λ c. search (rules, nothing_passed)) (λ c. search rules) (λ c κs. search rules) (λ c. search rules)
     (λ c. search rules) (λ c κs. search rules) (λ c. search rules) loop-again (λ c. search rules))

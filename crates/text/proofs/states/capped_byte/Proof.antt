@@ -3,7 +3,7 @@
 use mathlib.Core.Path.{refl}
 use native.Mathlib.Omega.{arith}
 use borrow.Author.Rules.{rules}
-use Rattle.text.proofs.Classes.{capped-alike}
+use Rattle.text.proofs.Classes.{capped_alike}
 use Rattle.text.proofs.states.capped_byte.Statement.{statement}
 use Rattle.text.proofs.states.capped_byte.Tie as tie
 
@@ -11,7 +11,7 @@ returns : tie.Need-returns
 returns c r m = refl
 
 returns-2 : tie.Need-returns-2
-returns-2 c = capped-alike _ (omega arith)
+returns-2 c = capped_alike _ (omega arith)
 
 pub capped-byte-spec : {M : Type 1} → statement M
 capped-byte-spec = tie.close (tie.spec (λ c. search rules) returns returns-2)

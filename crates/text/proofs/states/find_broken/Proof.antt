@@ -7,7 +7,7 @@ use native.Mathlib.Omega.{arith}
 use borrow.Author.Rules.{rules}
 use lib.ListN.{length}
 use Rattle.text.specs.Machine.{At}
-use Rattle.text.proofs.Laws.{nothing-passed, ends}
+use Rattle.text.proofs.Laws.{nothing_passed, ends}
 use Rattle.text.proofs.Machine.{begun, stepped, passed, refused, cut_off}
 use Rattle.text.proofs.states.find_broken.Statement.{statement}
 use Rattle.text.proofs.states.find_broken.Tie as tie
@@ -19,7 +19,7 @@ abbrev decreases-loop : tie.decreases-loop
 decreases-loop class step text from word₀ at₀ start₀ word at start = length text - at
 
 loop-holds : tie.Need-loop-init invariant-loop decreases-loop
-loop-holds c = begun (nothing-passed _ _ (omega arith)) refl
+loop-holds c = begun (nothing_passed _ _ (omega arith)) refl
 
 moved : (c : tie.After-after invariant-loop decreases-loop) →
     At c.before.before.before.before.before.before.args.text.now c.before.before.before.before.before.before.args.from

@@ -8,7 +8,7 @@ use borrow.Author.Rules.{rules}
 use lib.ListN.{length}
 use Rattle.text.specs.Sequences.{Passes}
 use Rattle.text.specs.Machine.{Reached}
-use Rattle.text.proofs.Laws.{nothing-passed, both-passed}
+use Rattle.text.proofs.Laws.{nothing_passed, both-passed}
 use Rattle.text.proofs.Machine.{reached, later}
 use Rattle.text.proofs.states.past_sequences.Statement.{statement}
 use Rattle.text.proofs.states.past_sequences.Tie as tie
@@ -20,7 +20,7 @@ abbrev decreases-loop : tie.decreases-loop
 decreases-loop class step text from word₀ at₀ begun₀ word at begun = length text - at
 
 loop-holds : tie.Need-loop-init invariant-loop decreases-loop
-loop-holds c = (nothing-passed _ _ (omega arith), reached (nothing-passed _ _ (omega arith)) refl)
+loop-holds c = (nothing_passed _ _ (omega arith), reached (nothing_passed _ _ (omega arith)) refl)
 
 begun-passed :
     (c : tie.After-begun-at invariant-loop decreases-loop) →

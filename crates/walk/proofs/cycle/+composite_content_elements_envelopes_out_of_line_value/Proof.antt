@@ -12,7 +12,7 @@ use borrow.Author.Rules.{rules}
 use borrow.Fn.Kinds.{In}
 use borrow.Fn.PlainCycle.{Measures, is, falls, and}
 use lib.ListN.{length}
-use Rattle.rules.specs.TypeTable.{typeTable}
+use Rattle.rules.specs.TypeTable.{type_table}
 use Rattle.rules.specs.Sizes.{size_of}
 use Rattle.rules.specs.Decode as D
 use Rattle.words.proofs.load64.Reads as load64-reads
@@ -23,32 +23,32 @@ use Rattle.table.proofs.c_at.Reads as c-at-reads
 use Rattle.table.proofs.kind_at.Reads as kind-at-reads
 use Rattle.table.proofs.row_of.Reads as row-of-reads
 use Rattle.layout.specs.Ready.{Ready}
-use Rattle.layout.proofs.Readiness.{row-few, row-in-use, row-size, size_small, ready_at}
-use Rattle.ordinals.proofs.Members.{members-rise, ordinal-content, ordinal-fits, vector-in-use, box-in-use, table-members, union-members, union-else}
-use Rattle.nesting.proofs.NoParts.{outside-left}
-use Rattle.nesting.proofs.Runs.{RunLeft, run-start, run-asks, run-next, run-stopped, run_end}
+use Rattle.layout.proofs.Readiness.{row_few, row_in_use, row_size, size_small, ready_at}
+use Rattle.ordinals.proofs.Members.{members_rise, ordinal_content, ordinal_fits, vector_in_use, box_in_use, table_members, union_members, union_else}
+use Rattle.nesting.proofs.NoParts.{outside_left}
+use Rattle.nesting.proofs.Runs.{RunLeft, run_start, run_asks, run_next, run_stopped, run_end}
 use Rattle.nesting.proofs.Steps.{fuel}
 use Rattle.walk_leaves.proofs.cursor.passed_on.Reads as passed-on-reads
 use Rattle.nesting.proofs.has_parts.Reads as has-parts-reads
 use Rattle.nesting.proofs.next_step.Reads as next-step-reads
 use Rattle.ordinals.proofs.ordinal_of.Reads as ordinal-of-reads
 use Rattle.plans.proofs.plan_of.Reads as plan-of-reads
-use Rattle.walk.specs.Walking.{walkRow}
-use Rattle.walk_records.proofs.Levels.{level-left}
-use Rattle.walk_records.proofs.Openings.{ask-bytes}
-use Rattle.walk.proofs.Contents.{content-unknown, content-closed, content-not-open, payload-few, payload-small, payload-ready, payload-asks, payload-rises, content-sealed, content-refused}
-use Rattle.walk_records.proofs.Unions.{member-fits}
-use Rattle.walk.proofs.OutOfLine.{elements-few, vector-record, box-record, table-record, union-record, vector-closed, vector-refused, vector-asks, vector-done, box-absent, box-refused, box-asks, box-done, table-closed, table-refused, table-asks, table_done, union-none, union-bad, union-asks, union-done}
-use Rattle.walk.proofs.Numbers.{numbers-ask, numbers-done}
-use Rattle.walk.proofs.Plans.{planned-ask, planned-done, alone-ask, alone-done}
-use Rattle.walk.proofs.StrictRows.{strict-run-ask, strict-ask, strict-run-done, strict-done}
+use Rattle.walk.specs.Walking.{walk_row}
+use Rattle.walk_records.proofs.Levels.{level_left}
+use Rattle.walk_records.proofs.Openings.{ask_bytes}
+use Rattle.walk.proofs.Contents.{content_unknown, content_closed, content_not_open, payload_few, payload_small, payload_ready, payload_asks, payload_rises, content_sealed, content_refused}
+use Rattle.walk_records.proofs.Unions.{member_fits}
+use Rattle.walk.proofs.OutOfLine.{elements_few, vector_record, box_record, table_record_lem, union_record_lem, vector_closed, vector_refused, vector_asks, vector_done, box_absent, box_refused, box_asks, box_done, table_closed, table_refused, table_asks, table_done, union_none, union_bad, union_asks, union_done}
+use Rattle.walk.proofs.Numbers.{numbers_ask, numbers_done}
+use Rattle.walk.proofs.Plans.{planned_ask, planned_done, alone_ask, alone_done}
+use Rattle.walk.proofs.StrictRows.{strict_run_ask, strict_ask, strict_run_done, strict_done}
 use Rattle.walk_leaves.specs.Doing.{message}
 use Rattle.walk_leaves.proofs.Reading.{reading}
-use Rattle.walk.proofs.TableEnvelopes.{EnvelopesLeft, envelopes-start, envelopes-end, content-asks, last-absent, one-absent, one-present, one-refused, one-lengths}
-use Rattle.walk.proofs.Values.{value-bool, value-number, value-handle, value-string}
-use Rattle.walk.proofs.NoParts.{value-empty, array-ask, array-done, number-ask, string-ask}
-use Rattle.walk.proofs.Turns.{Walking, walking_start, state-known, turn-fill, turn-filled, turn-fill-refused, turn-into, turn-call, turn-called, turn-call-refused, turn-out, turn-done}
-use Rattle.walk.proofs.OneMember.{one-member, member-asks, fill-asks, member-refused, member-filled}
+use Rattle.walk.proofs.TableEnvelopes.{EnvelopesLeft, envelopes_start, envelopes_end, content_asks, last_absent, one_absent, one_present, one_refused, one_lengths}
+use Rattle.walk.proofs.Values.{value_bool, value_number, value_handle, value_string}
+use Rattle.walk.proofs.NoParts.{value_empty, array_ask, array_done, number_ask, string_ask}
+use Rattle.walk.proofs.Turns.{Walking, walking_start, state_known, turn_fill, turn_filled, turn_fill_refused, turn_into, turn_call, turn_called, turn_call_refused, turn_out, turn_done}
+use Rattle.walk.proofs.OneMember.{one_member, member_asks, fill_asks, member_refused, member_filled}
 use Rattle.walk.proofs.cycle.composite.Reads as composite
 use Rattle.walk.proofs.cycle.composite.Kinds as composite-kinds
 use Rattle.walk.proofs.cycle.+composite_content_elements_envelopes_out_of_line_value.Lts-composite as composite-lts
@@ -61,7 +61,7 @@ use Rattle.walk.proofs.cycle.+composite_content_elements_envelopes_out_of_line_v
 use Rattle.walk.proofs.cycle.envelopes.Reads as envelopes
 use Rattle.walk.proofs.cycle.envelopes.Kinds as envelopes-kinds
 use Rattle.walk.proofs.cycle.+composite_content_elements_envelopes_out_of_line_value.Lts-envelopes as envelopes-lts
-use Rattle.walk.proofs.cycle.out_of_line.Reads as out-of-line
+use Rattle.walk.proofs.cycle.out_of_line.Reads as out_of_line_lem
 use Rattle.walk.proofs.cycle.out_of_line.Kinds as out-of-line-kinds
 use Rattle.walk.proofs.cycle.+composite_content_elements_envelopes_out_of_line_value.Lts-out_of_line as out-of-line-lts
 use Rattle.walk.proofs.cycle.value.Reads as value
@@ -121,8 +121,8 @@ content-below t = and 8 content-kinds.ps (falls 8 content-kinds.ps ◌<◌ μ-co
 abbrev elements-at : ℕ → In 8 elements-kinds.ps
 elements-at t = and 8 elements-kinds.ps (is 8 elements-kinds.ps μ-elements t) elements.Pre
 
-abbrev elements-below : ℕ → In 8 elements-kinds.ps
-elements-below t =
+abbrev elements_below : ℕ → In 8 elements-kinds.ps
+elements_below t =
     and 8 elements-kinds.ps (falls 8 elements-kinds.ps ◌<◌ μ-elements t) elements.Pre
 
 abbrev envelopes-at : ℕ → In 8 envelopes-kinds.ps
@@ -134,11 +134,11 @@ envelopes-below t =
 
 abbrev out-of-line-at : ℕ → In 8 out-of-line-kinds.ps
 out-of-line-at t =
-    and 8 out-of-line-kinds.ps (is 8 out-of-line-kinds.ps μ-out-of-line t) out-of-line.Pre
+    and 8 out-of-line-kinds.ps (is 8 out-of-line-kinds.ps μ-out-of-line t) out_of_line_lem.Pre
 
 abbrev out-of-line-below : ℕ → In 8 out-of-line-kinds.ps
 out-of-line-below t =
-    and 8 out-of-line-kinds.ps (falls 8 out-of-line-kinds.ps ◌<◌ μ-out-of-line t) out-of-line.Pre
+    and 8 out-of-line-kinds.ps (falls 8 out-of-line-kinds.ps ◌<◌ μ-out-of-line t) out_of_line_lem.Pre
 
 abbrev value-at : ℕ → In 8 value-kinds.ps
 value-at t = and 8 value-kinds.ps (is 8 value-kinds.ps μ-value t) value.Pre
@@ -153,7 +153,7 @@ composite-calls t = (a-at-reads.Asked, a-at-reads.Learnt, row-of-reads.Asked, ro
 
 abbrev composite-Inv-loop : composite-lts.invariant-loop
 composite-Inv-loop rows members entries sizes alignments bytes held values₀ objects₀ depth row at first part kept₀ around₀ level₀ due₀ place₀ d₀ values objects kept around level due place d =
-    Ready (typeTable rows members entries) sizes alignments depth row × Walking (typeTable rows members entries) bytes held depth row at values₀ objects₀ d₀ (record { row = 0; done = 0; at = 0 }) alignments values objects kept around level due place d
+    Ready (type_table rows members entries) sizes alignments depth row × Walking (type_table rows members entries) bytes held depth row at values₀ objects₀ d₀ (record { row = 0; done = 0; at = 0 }) alignments values objects kept around level due place d
 
 abbrev composite-μ-loop : composite-lts.decreases-loop
 composite-μ-loop rows members entries sizes alignments bytes held values₀ objects₀ depth row at first part kept₀ around₀ level₀ due₀ place₀ d₀ values objects kept around level due place d =
@@ -164,7 +164,7 @@ composite-planned-requires t c κs =
     let at-if2 = c.before.before.before in
     let at-plan-of = at-if2.before.before in
     let start = at-plan-of.before.before.before.before.before.before.before.before.before.before.before in
-    alone-ask start.requires.1.0 at-plan-of.plan-of.ensures at-if2.if2.true c.before.number_at.ensures start.requires.1.2
+    alone_ask start.requires.1.0 at-plan-of.plan-of.ensures at-if2.if2.true c.before.number_at.ensures start.requires.1.2
 
 composite-returns : (t : ℕ) → composite-lts.Need-returns (composite-calls t) (composite-at t) composite.Post composite-Inv-loop composite-μ-loop
 composite-returns t c =
@@ -173,7 +173,7 @@ composite-returns t c =
     let at-if2 = at-number-at.before.before in
     let at-plan-of = at-if2.before.before in
     let start = at-plan-of.before.before.before.before.before.before.before.before.before.before.before in
-    alone-done start.requires.1.0 at-plan-of.plan-of.ensures at-if2.if2.true at-number-at.number_at.ensures _ _ _ _ _ _ _ _ start.requires.1.2 at-planned.planned.ensures
+    alone_done start.requires.1.0 at-plan-of.plan-of.ensures at-if2.if2.true at-number-at.number_at.ensures _ _ _ _ _ _ _ _ start.requires.1.2 at-planned.planned.ensures
 
 composite-has-parts-requires : (t : ℕ) → composite-lts.Need-has-parts-requires (composite-calls t) (composite-at t) composite.Post composite-Inv-loop composite-μ-loop
 composite-has-parts-requires t c κs = search rules
@@ -183,8 +183,8 @@ composite-value-requires t c κs =
     let at-if3 = c.before.before in
     let at-number-at = at-if3.before.before.before.before.before.before in
     let start = at-number-at.before.before.before.before.before.before.before.before in
-    let one = one-member start.requires.1.0 _ at-if3.before.before.before.kind-at2.ensures at-if3.before.before.b_at.ensures at-if3.if3.true in
-    let k = member-asks start.requires.1.0 start.requires.1.1 one at-number-at.before.a_at.ensures at-number-at.row_of.ensures start.requires.1.2 in
+    let one = one_member start.requires.1.0 _ at-if3.before.before.before.kind-at2.ensures at-if3.before.before.b_at.ensures at-if3.if3.true in
+    let k = member_asks start.requires.1.0 start.requires.1.1 one at-number-at.before.a_at.ensures at-number-at.row_of.ensures start.requires.1.2 in
     (omega (arith, start.requires.0, k.2), (k.0, k.1))
 
 composite-enum-known-d : (t : ℕ) → composite-lts.Need-enum-known-d (composite-calls t) (composite-at t) composite.Post composite-Inv-loop composite-μ-loop
@@ -211,16 +211,16 @@ composite-sub-fill-at t c =
     let at-if3 = c.before.before.before.before.before.before.before.before.before.before.before.before.before.before in
     let at-number-at = at-if3.before.before.before.before.before.before in
     let start = at-number-at.before.before.before.before.before.before.before.before in
-    let one = one-member start.requires.1.0 _ at-if3.before.before.before.kind-at2.ensures at-if3.before.before.b_at.ensures at-if3.if3.true in
-    (fill-asks start.requires.1.0 start.requires.1.1 one at-number-at.before.a_at.ensures at-number-at.row_of.ensures start.requires.1.2 c.before.before.number-at2.ensures c.number-at3.ensures).0
+    let one = one_member start.requires.1.0 _ at-if3.before.before.before.kind-at2.ensures at-if3.before.before.b_at.ensures at-if3.if3.true in
+    (fill_asks start.requires.1.0 start.requires.1.1 one at-number-at.before.a_at.ensures at-number-at.row_of.ensures start.requires.1.2 c.before.before.number-at2.ensures c.number-at3.ensures).0
 
 composite-fill-at-requires : (t : ℕ) → composite-lts.Need-fill-at-requires (composite-calls t) (composite-at t) composite.Post composite-Inv-loop composite-μ-loop
 composite-fill-at-requires t c κs =
     let at-if3 = c.before.before.before.before.before.before.before.before.before.before.before.before.before.before in
     let at-number-at = at-if3.before.before.before.before.before.before in
     let start = at-number-at.before.before.before.before.before.before.before.before in
-    let one = one-member start.requires.1.0 _ at-if3.before.before.before.kind-at2.ensures at-if3.before.before.b_at.ensures at-if3.if3.true in
-    omega (arith, fill-asks start.requires.1.0 start.requires.1.1 one at-number-at.before.a_at.ensures at-number-at.row_of.ensures start.requires.1.2 c.before.before.number-at2.ensures c.number-at3.ensures)
+    let one = one_member start.requires.1.0 _ at-if3.before.before.before.kind-at2.ensures at-if3.before.before.b_at.ensures at-if3.if3.true in
+    omega (arith, fill_asks start.requires.1.0 start.requires.1.1 one at-number-at.before.a_at.ensures at-number-at.row_of.ensures start.requires.1.2 c.before.before.number-at2.ensures c.number-at3.ensures)
 
 composite-same-length-2 : (t : ℕ) → composite-lts.Need-same-length-2 (composite-calls t) (composite-at t) composite.Post composite-Inv-loop composite-μ-loop
 composite-same-length-2 t c = search rules
@@ -233,8 +233,8 @@ composite-returns-2 t c =
     let at-if3 = c.before.before.before.before.before.before.before.before.before.before.before.before.before.before.before in
     let at-number-at = at-if3.before.before.before.before.before.before in
     let start = at-number-at.before.before.before.before.before.before.before.before in
-    let one = one-member start.requires.1.0 _ at-if3.before.before.before.kind-at2.ensures at-if3.before.before.b_at.ensures at-if3.if3.true in
-    member-filled start.requires.1.0 start.requires.1.1 one at-number-at.before.a_at.ensures at-number-at.row_of.ensures _ _ _ _ _ _ _ _ start.requires.1.2 c.before.before.before.before.before.before.before.before.before.before.before.before.value.ensures c.before.before.before.before.before.before.d.given.1 c.before.before.before.number-at2.ensures c.before.number-at3.ensures _ c.fill-at.ensures
+    let one = one_member start.requires.1.0 _ at-if3.before.before.before.kind-at2.ensures at-if3.before.before.b_at.ensures at-if3.if3.true in
+    member_filled start.requires.1.0 start.requires.1.1 one at-number-at.before.a_at.ensures at-number-at.row_of.ensures _ _ _ _ _ _ _ _ start.requires.1.2 c.before.before.before.before.before.before.before.before.before.before.before.before.value.ensures c.before.before.before.before.before.before.d.given.1 c.before.before.before.number-at2.ensures c.before.number-at3.ensures _ c.fill-at.ensures
 
 composite-enum-known-f : (t : ℕ) → composite-lts.Need-enum-known-f (composite-calls t) (composite-at t) composite.Post composite-Inv-loop composite-μ-loop
 composite-enum-known-f t c = search rules
@@ -250,8 +250,8 @@ composite-returns-3 t c =
     let at-if3 = c.before.before.before.before.before.before.before.before.before.before in
     let at-number-at = at-if3.before.before.before.before.before.before in
     let start = at-number-at.before.before.before.before.before.before.before.before in
-    let one = one-member start.requires.1.0 _ at-if3.before.before.before.kind-at2.ensures at-if3.before.before.b_at.ensures at-if3.if3.true in
-    member-refused start.requires.1.0 start.requires.1.1 one at-number-at.before.a_at.ensures at-number-at.row_of.ensures _ _ _ _ _ _ _ _ start.requires.1.2 c.before.before.before.before.before.before.before.value.ensures c.before.f.given.1
+    let one = one_member start.requires.1.0 _ at-if3.before.before.before.kind-at2.ensures at-if3.before.before.b_at.ensures at-if3.if3.true in
+    member_refused start.requires.1.0 start.requires.1.1 one at-number-at.before.a_at.ensures at-number-at.row_of.ensures _ _ _ _ _ _ _ _ start.requires.1.2 c.before.before.before.before.before.before.before.value.ensures c.before.f.given.1
 
 composite-loop-holds : (t : ℕ) → composite-lts.Need-loop-init (composite-calls t) (composite-at t) composite.Post composite-Inv-loop composite-μ-loop
 composite-loop-holds t c = (c.before.before.before.before.before.before.before.before.before.before.before.before.before.before.requires.1.0, walking_start c.before.before.before.before.before.before.before.before.before.before.before.before.before.before.requires.1.0 _ _ refl c.before.before.before.before.before.before.before.before.before.before.before.before.before.before.requires.1.1 c.before.before.before.before.before.before.before.before.before.before.before.before.before.before.requires.1.2)
@@ -259,27 +259,27 @@ composite-loop-holds t c = (c.before.before.before.before.before.before.before.b
 composite-sub-fill-at-2 : (t : ℕ) → composite-lts.Need-overflow-sub-fill-at-2 (composite-calls t) (composite-at t) composite.Post composite-Inv-loop composite-μ-loop
 composite-sub-fill-at-2 t c =
     let loop = c.before.before.before.before.loop in
-    (turn-fill loop.invariant.0 loop.invariant.1 c.before.before.before.next-step.ensures c.before.next.given.1).0
+    (turn_fill loop.invariant.0 loop.invariant.1 c.before.before.before.next-step.ensures c.before.next.given.1).0
 
 composite-fill-at-requires-2 : (t : ℕ) → composite-lts.Need-fill-at-requires-2 (composite-calls t) (composite-at t) composite.Post composite-Inv-loop composite-μ-loop
 composite-fill-at-requires-2 t c κs =
     let loop = c.before.before.before.before.loop in
-    omega (arith, turn-fill loop.invariant.0 loop.invariant.1 c.before.before.before.next-step.ensures c.before.next.given.1)
+    omega (arith, turn_fill loop.invariant.0 loop.invariant.1 c.before.before.before.next-step.ensures c.before.next.given.1)
 
 composite-add-level : (t : ℕ) → composite-lts.Need-overflow-add-level (composite-calls t) (composite-at t) composite.Post composite-Inv-loop composite-μ-loop
 composite-add-level t c =
     let loop = c.before.before.before.before.before.before.before.before.before.loop in
-    omega (arith, (state-known loop.invariant.0 loop.invariant.1).done)
+    omega (arith, (state_known loop.invariant.0 loop.invariant.1).done)
 
 composite-loop-less : (t : ℕ) → composite-lts.Need-loop-smaller (composite-calls t) (composite-at t) composite.Post composite-Inv-loop composite-μ-loop
 composite-loop-less t c =
     let loop = c.before.before.before.before.before.before.before.before.before.loop in
-    (turn-filled loop.invariant.0 loop.invariant.1 c.before.before.before.before.before.before.before.before.next-step.ensures c.before.before.before.before.before.before.next.given.1 c.before.before.before.before.fill-at2.ensures c.before.before.e.given.1).1
+    (turn_filled loop.invariant.0 loop.invariant.1 c.before.before.before.before.before.before.before.before.next-step.ensures c.before.before.before.before.before.before.next.given.1 c.before.before.before.before.fill-at2.ensures c.before.before.e.given.1).1
 
 composite-loop-again : (t : ℕ) → composite-lts.Need-loop-preserved (composite-calls t) (composite-at t) composite.Post composite-Inv-loop composite-μ-loop
 composite-loop-again t c =
     let loop = c.before.before.before.before.before.before.before.before.before.loop in
-    (loop.invariant.0, (turn-filled loop.invariant.0 loop.invariant.1 c.before.before.before.before.before.before.before.before.next-step.ensures c.before.before.before.before.before.before.next.given.1 c.before.before.before.before.fill-at2.ensures c.before.before.e.given.1).0)
+    (loop.invariant.0, (turn_filled loop.invariant.0 loop.invariant.1 c.before.before.before.before.before.before.before.before.next-step.ensures c.before.before.before.before.before.before.next.given.1 c.before.before.before.before.fill-at2.ensures c.before.before.e.given.1).0)
 
 composite-same-length-6 : (t : ℕ) → composite-lts.Need-same-length-6 (composite-calls t) (composite-at t) composite.Post composite-Inv-loop composite-μ-loop
 composite-same-length-6 t c = c.before.before.before.before.before.before.before.before.loop.invariant.1.lengths.0
@@ -290,27 +290,27 @@ composite-same-length-7 t c = c.before.before.before.before.before.before.before
 composite-returns-4 : (t : ℕ) → composite-lts.Need-returns-4 (composite-calls t) (composite-at t) composite.Post composite-Inv-loop composite-μ-loop
 composite-returns-4 t c =
     let loop = c.before.before.before.before.before.before.before.before.loop in
-    turn-fill-refused loop.invariant.0 loop.invariant.1 c.before.before.before.before.before.before.before.next-step.ensures c.before.before.before.before.before.next.given.1 c.before.before.before.fill-at2.ensures c.before.f2.given.1
+    turn_fill_refused loop.invariant.0 loop.invariant.1 c.before.before.before.before.before.before.before.next-step.ensures c.before.before.before.before.before.next.given.1 c.before.before.before.fill-at2.ensures c.before.f2.given.1
 
 composite-array-set-from-kept : (t : ℕ) → composite-lts.Need-array-set-from-kept (composite-calls t) (composite-at t) composite.Post composite-Inv-loop composite-μ-loop
 composite-array-set-from-kept t c =
     let loop = c.before.before.before.before.loop in
-    (turn-into loop.invariant.0 loop.invariant.1 c.before.before.before.next-step.ensures c.before.part.given.1).2
+    (turn_into loop.invariant.0 loop.invariant.1 c.before.before.before.next-step.ensures c.before.part.given.1).2
 
 composite-loop-less-2 : (t : ℕ) → composite-lts.Need-loop-smaller-2 (composite-calls t) (composite-at t) composite.Post composite-Inv-loop composite-μ-loop
 composite-loop-less-2 t c =
     let loop = c.before.before.before.before.loop in
-    (turn-into loop.invariant.0 loop.invariant.1 c.before.before.before.next-step.ensures c.before.part.given.1).1
+    (turn_into loop.invariant.0 loop.invariant.1 c.before.before.before.next-step.ensures c.before.part.given.1).1
 
 composite-loop-again-2 : (t : ℕ) → composite-lts.Need-loop-preserved-2 (composite-calls t) (composite-at t) composite.Post composite-Inv-loop composite-μ-loop
 composite-loop-again-2 t c =
     let loop = c.before.before.before.before.loop in
-    (loop.invariant.0, (turn-into loop.invariant.0 loop.invariant.1 c.before.before.before.next-step.ensures c.before.part.given.1).0)
+    (loop.invariant.0, (turn_into loop.invariant.0 loop.invariant.1 c.before.before.before.next-step.ensures c.before.part.given.1).0)
 
 composite-value-requires-2 : (t : ℕ) → composite-lts.Need-value-requires-2 (composite-calls t) (composite-at t) composite.Post composite-Inv-loop composite-μ-loop
 composite-value-requires-2 t c κs =
     let loop = c.before.before.before.before.before.before.loop in
-    let k = turn-call loop.invariant.0 loop.invariant.1 c.before.before.before.before.before.next-step.ensures c.before.before.before.part2.given.1 in (omega (arith, c.before.before.before.before.before.before.before.before.before.before.before.before.before.before.before.before.before.before.before.before.before.requires.0, k.2), (k.0, k.1))
+    let k = turn_call loop.invariant.0 loop.invariant.1 c.before.before.before.before.before.next-step.ensures c.before.before.before.part2.given.1 in (omega (arith, c.before.before.before.before.before.before.before.before.before.before.before.before.before.before.before.before.before.before.before.before.before.requires.0, k.2), (k.0, k.1))
 
 composite-enum-known-e-2 : (t : ℕ) → composite-lts.Need-enum-known-e-2 (composite-calls t) (composite-at t) composite.Post composite-Inv-loop composite-μ-loop
 composite-enum-known-e-2 t c = search rules
@@ -318,17 +318,17 @@ composite-enum-known-e-2 t c = search rules
 composite-add-place : (t : ℕ) → composite-lts.Need-overflow-add-place (composite-calls t) (composite-at t) composite.Post composite-Inv-loop composite-μ-loop
 composite-add-place t c =
     let loop = c.before.before.before.before.before.before.before.before.before.before.before.before.before.before.before.before.loop in
-    omega (arith, (state-known loop.invariant.0 loop.invariant.1).short)
+    omega (arith, (state_known loop.invariant.0 loop.invariant.1).short)
 
 composite-loop-less-3 : (t : ℕ) → composite-lts.Need-loop-smaller-3 (composite-calls t) (composite-at t) composite.Post composite-Inv-loop composite-μ-loop
 composite-loop-less-3 t c =
     let loop = c.before.before.before.before.before.before.before.before.before.before.before.before.before.before.before.before.loop in
-    (turn-called loop.invariant.0 loop.invariant.1 c.before.before.before.before.before.before.before.before.before.before.before.before.before.before.before.next-step.ensures c.before.before.before.before.before.before.before.before.before.before.before.before.before.part2.given.1 c.before.before.before.before.before.before.before.before.before.value2.ensures c.before.before.before.e2.given.1 c.number-at4.ensures).1
+    (turn_called loop.invariant.0 loop.invariant.1 c.before.before.before.before.before.before.before.before.before.before.before.before.before.before.before.next-step.ensures c.before.before.before.before.before.before.before.before.before.before.before.before.before.part2.given.1 c.before.before.before.before.before.before.before.before.before.value2.ensures c.before.before.before.e2.given.1 c.number-at4.ensures).1
 
 composite-loop-again-3 : (t : ℕ) → composite-lts.Need-loop-preserved-3 (composite-calls t) (composite-at t) composite.Post composite-Inv-loop composite-μ-loop
 composite-loop-again-3 t c =
     let loop = c.before.before.before.before.before.before.before.before.before.before.before.before.before.before.before.before.loop in
-    (loop.invariant.0, (turn-called loop.invariant.0 loop.invariant.1 c.before.before.before.before.before.before.before.before.before.before.before.before.before.before.before.next-step.ensures c.before.before.before.before.before.before.before.before.before.before.before.before.before.part2.given.1 c.before.before.before.before.before.before.before.before.before.value2.ensures c.before.before.before.e2.given.1 c.number-at4.ensures).0)
+    (loop.invariant.0, (turn_called loop.invariant.0 loop.invariant.1 c.before.before.before.before.before.before.before.before.before.before.before.before.before.before.before.next-step.ensures c.before.before.before.before.before.before.before.before.before.before.before.before.before.part2.given.1 c.before.before.before.before.before.before.before.before.before.value2.ensures c.before.before.before.e2.given.1 c.number-at4.ensures).0)
 
 composite-enum-known-f-3 : (t : ℕ) → composite-lts.Need-enum-known-f-3 (composite-calls t) (composite-at t) composite.Post composite-Inv-loop composite-μ-loop
 composite-enum-known-f-3 t c = search rules
@@ -342,22 +342,22 @@ composite-same-length-9 t c = search rules
 composite-returns-5 : (t : ℕ) → composite-lts.Need-returns-5 (composite-calls t) (composite-at t) composite.Post composite-Inv-loop composite-μ-loop
 composite-returns-5 t c =
     let loop = c.before.before.before.before.before.before.before.before.before.before.before.before.before.before.loop in
-    turn-call-refused loop.invariant.0 loop.invariant.1 c.before.before.before.before.before.before.before.before.before.before.before.before.before.next-step.ensures c.before.before.before.before.before.before.before.before.before.before.before.part2.given.1 c.before.before.before.before.before.before.before.value2.ensures c.before.f3.given.1
+    turn_call_refused loop.invariant.0 loop.invariant.1 c.before.before.before.before.before.before.before.before.before.before.before.before.before.next-step.ensures c.before.before.before.before.before.before.before.before.before.before.before.part2.given.1 c.before.before.before.before.before.before.before.value2.ensures c.before.f3.given.1
 
 composite-sub-around : (t : ℕ) → composite-lts.Need-overflow-sub-around (composite-calls t) (composite-at t) composite.Post composite-Inv-loop composite-μ-loop
 composite-sub-around t c =
     let loop = c.before.before.before.loop in
-    (turn-out loop.invariant.0 loop.invariant.1 c.before.before.next-step.ensures c.enum_told.given.1).2
+    (turn_out loop.invariant.0 loop.invariant.1 c.before.before.next-step.ensures c.enum_told.given.1).2
 
 composite-loop-less-4 : (t : ℕ) → composite-lts.Need-loop-smaller-4 (composite-calls t) (composite-at t) composite.Post composite-Inv-loop composite-μ-loop
 composite-loop-less-4 t c =
     let loop = c.before.before.before.before.loop in
-    (turn-out loop.invariant.0 loop.invariant.1 c.before.before.before.next-step.ensures c.before.enum_told.given.1).1
+    (turn_out loop.invariant.0 loop.invariant.1 c.before.before.before.next-step.ensures c.before.enum_told.given.1).1
 
 composite-loop-again-4 : (t : ℕ) → composite-lts.Need-loop-preserved-4 (composite-calls t) (composite-at t) composite.Post composite-Inv-loop composite-μ-loop
 composite-loop-again-4 t c =
     let loop = c.before.before.before.before.loop in
-    (loop.invariant.0, (turn-out loop.invariant.0 loop.invariant.1 c.before.before.before.next-step.ensures c.before.enum_told.given.1).0)
+    (loop.invariant.0, (turn_out loop.invariant.0 loop.invariant.1 c.before.before.before.next-step.ensures c.before.enum_told.given.1).0)
 
 composite-same-length-10 : (t : ℕ) → composite-lts.Need-same-length-10 (composite-calls t) (composite-at t) composite.Post composite-Inv-loop composite-μ-loop
 composite-same-length-10 t c = c.before.before.before.loop.invariant.1.lengths.0
@@ -368,7 +368,7 @@ composite-same-length-11 t c = c.before.before.before.loop.invariant.1.lengths.1
 composite-returns-6 : (t : ℕ) → composite-lts.Need-returns-6 (composite-calls t) (composite-at t) composite.Post composite-Inv-loop composite-μ-loop
 composite-returns-6 t c =
     let loop = c.before.before.before.loop in
-    turn-done loop.invariant.0 loop.invariant.1 c.before.before.next-step.ensures c.enum-told2.given.1
+    turn_done loop.invariant.0 loop.invariant.1 c.before.before.next-step.ensures c.enum-told2.given.1
 
 -- ---- content: an envelope's content
 
@@ -378,17 +378,17 @@ content-calls t = (unknown-content-reads.Asked, unknown-content-reads.Learnt, nu
 content-unknown-content-requires : (t : ℕ) → content-lts.Need-unknown-content-requires (content-calls t) (content-at t) content.Post
 content-unknown-content-requires t c κs =
     let start = c.before.before.before.before.before.before.before.before.before.before in
-    (start.requires.1.2, omega (arith, row-few start.requires.1.0))
+    (start.requires.1.2, omega (arith, row_few start.requires.1.0))
 
 content-known-opened-requires : (t : ℕ) → content-lts.Need-known-opened-requires (content-calls t) (content-at t) content.Post
 content-known-opened-requires t c κs =
     let at-number-at = c.before in
     let at-what = at-number-at.before.before.before in
     let start = at-what.before.before.before.before.before.before.before.before in
-    (ask-bytes start.requires.1.2, omega (arith, payload-few _ start.requires.1.0 start.requires.1.1 at-what.what.given.1), payload-small _ start.requires.1.0 start.requires.1.1 at-what.what.given.1 at-number-at.number_at.ensures)
+    (ask_bytes start.requires.1.2, omega (arith, payload_few _ start.requires.1.0 start.requires.1.1 at-what.what.given.1), payload_small _ start.requires.1.0 start.requires.1.1 at-what.what.given.1 at-number-at.number_at.ensures)
 
 content-sub-value : (t : ℕ) → content-lts.Need-overflow-sub-value (content-calls t) (content-at t) content.Post
-content-sub-value t c = search (rules, level-left)
+content-sub-value t c = search (rules, level_left)
 
 content-value-requires : (t : ℕ) → content-lts.Need-value-requires (content-calls t) (content-at t) content.Post
 content-value-requires t c κs =
@@ -397,8 +397,8 @@ content-value-requires t c κs =
     let at-number-at = at-known-opened.before.before in
     let at-what = at-number-at.before.before.before in
     let start = at-what.before.before.before.before.before.before.before.before in
-    let l = level-left _ _ at-known-opened.known-opened.ensures.1 at_x.x.given.1 in
-    (omega (arith, start.requires.0, l, payload-few _ start.requires.1.0 start.requires.1.1 at-what.what.given.1), (payload-ready _ start.requires.1.0 start.requires.1.1 at-what.what.given.1, payload-asks _ start.args.bytes.now _ _ _ _ start.args.values.now _ _ _ _ start.requires.1.0 start.requires.1.1 at-what.what.given.1 at-number-at.number_at.ensures start.requires.1.2 _ at-known-opened.known-opened.ensures.0 at_x.x.given.1))
+    let l = level_left _ _ at-known-opened.known-opened.ensures.1 at_x.x.given.1 in
+    (omega (arith, start.requires.0, l, payload_few _ start.requires.1.0 start.requires.1.1 at-what.what.given.1), (payload_ready _ start.requires.1.0 start.requires.1.1 at-what.what.given.1, payload_asks _ start.args.bytes.now _ _ _ _ start.args.values.now _ _ _ _ start.requires.1.0 start.requires.1.1 at-what.what.given.1 at-number-at.number_at.ensures start.requires.1.2 _ at-known-opened.known-opened.ensures.0 at_x.x.given.1))
 
 content-sealed-requires : (t : ℕ) → content-lts.Need-sealed-requires (content-calls t) (content-at t) content.Post
 content-sealed-requires t c κs =
@@ -410,23 +410,23 @@ content-sealed-requires t c κs =
     let at-what = at-number-at.before.before.before in
     let start = at-what.before.before.before.before.before.before.before.before in
     let a = start.requires.1.2 in
-    let p = payload-rises _ _ _ _ _ _ _ _ _ _ _ start.requires.1.0 start.requires.1.1 at-what.what.given.1 at-number-at.number_at.ensures start.requires.1.2 _ at-known-opened.known-opened.ensures.0 at_x.x.given.1 at_value.value.ensures at-d2.d2.given.1 in
-    (omega (arith, a.inside, a.short), payload-small _ start.requires.1.0 start.requires.1.1 at-what.what.given.1 at-number-at.number_at.ensures, p.0, p.1)
+    let p = payload_rises _ _ _ _ _ _ _ _ _ _ _ start.requires.1.0 start.requires.1.1 at-what.what.given.1 at-number-at.number_at.ensures start.requires.1.2 _ at-known-opened.known-opened.ensures.0 at_x.x.given.1 at_value.value.ensures at-d2.d2.given.1 in
+    (omega (arith, a.inside, a.short), payload_small _ start.requires.1.0 start.requires.1.1 at-what.what.given.1 at-number-at.number_at.ensures, p.0, p.1)
 
 content-returns : (t : ℕ) → content-lts.Need-returns (content-calls t) (content-at t) content.Post
-content-returns t c = search (rules, content-unknown)
+content-returns t c = search (rules, content_unknown)
 
 content-returns-2 : (t : ℕ) → content-lts.Need-returns-2 (content-calls t) (content-at t) content.Post
-content-returns-2 t c = search (rules, content-closed)
+content-returns-2 t c = search (rules, content_closed)
 
 content-returns-3 : (t : ℕ) → content-lts.Need-returns-3 (content-calls t) (content-at t) content.Post
-content-returns-3 t c = search (rules, content-not-open)
+content-returns-3 t c = search (rules, content_not_open)
 
 content-returns-4 : (t : ℕ) → content-lts.Need-returns-4 (content-calls t) (content-at t) content.Post
-content-returns-4 t c = search (rules, content-sealed, c.before.before.before.before.before.before.before.before.before.before.before.before.before.before.before.before.before.before.before.before.before.before.before.before.before.before.before.before.before.requires, c.before.before.before.before.before.before.before.before.before.before.before.before.before.before.before.before.before.before.before.before.before.what.given.1, c.before.before.before.before.before.before.before.before.before.before.before.before.before.before.before.before.before.before.number_at.ensures)
+content-returns-4 t c = search (rules, content_sealed, c.before.before.before.before.before.before.before.before.before.before.before.before.before.before.before.before.before.before.before.before.before.before.before.before.before.before.before.before.before.requires, c.before.before.before.before.before.before.before.before.before.before.before.before.before.before.before.before.before.before.before.before.before.what.given.1, c.before.before.before.before.before.before.before.before.before.before.before.before.before.before.before.before.before.before.number_at.ensures)
 
 content-returns-5 : (t : ℕ) → content-lts.Need-returns-5 (content-calls t) (content-at t) content.Post
-content-returns-5 t c = search (rules, content-refused, c.before.before.before.before.before.before.before.before.before.before.before.before.before.before.before.before.before.before.before.before.before.before.before.before.before.before.before.before.requires, c.before.before.before.before.before.before.before.before.before.before.before.before.before.before.before.before.before.before.before.before.what.given.1, c.before.before.before.before.before.before.before.before.before.before.before.before.before.before.before.before.before.number_at.ensures)
+content-returns-5 t c = search (rules, content_refused, c.before.before.before.before.before.before.before.before.before.before.before.before.before.before.before.before.before.before.before.before.before.before.before.before.before.before.before.before.requires, c.before.before.before.before.before.before.before.before.before.before.before.before.before.before.before.before.before.before.before.before.what.given.1, c.before.before.before.before.before.before.before.before.before.before.before.before.before.before.before.before.before.number_at.ensures)
 
 -- ---- elements: a vector's elements
 
@@ -435,8 +435,8 @@ elements-calls t = (kind-at-reads.Asked, kind-at-reads.Learnt, a-at-reads.Asked,
 
 abbrev elements-Inv-loop : elements-lts.invariant-loop
 elements-Inv-loop rows members entries sizes alignments bytes held values₀ objects₀ depth row count at kind size d₀ place₀ left₀ values objects d place left =
-    RunLeft (reading (message (typeTable rows members entries) bytes held)) (size_of (typeTable rows members entries) row) (λ k. walkRow (typeTable rows members entries) bytes held depth row) (count * size_of (typeTable rows members entries) row) at
-    (D.elements (size_of (typeTable rows members entries) row) (λ k. walkRow (typeTable rows members entries) bytes held depth row) 0 count) (values₀, objects₀) d₀ (values, objects) d 0 left place
+    RunLeft (reading (message (type_table rows members entries) bytes held)) (size_of (type_table rows members entries) row) (λ k. walk_row (type_table rows members entries) bytes held depth row) (count * size_of (type_table rows members entries) row) at
+    (D.elements (size_of (type_table rows members entries) row) (λ k. walk_row (type_table rows members entries) bytes held depth row) 0 count) (values₀, objects₀) d₀ (values, objects) d 0 left place
     × (length values ≡ length values₀) × (length objects ≡ length objects₀)
 
 abbrev elements-μ-loop : elements-lts.decreases-loop
@@ -449,17 +449,17 @@ elements-numbers-requires t c κs =
     let at-if1 = at-number-at2.before in
     let at-number-at = at-if1.before in
     let start = at-number-at.before.before.before.before.before.before.before in
-    numbers-ask start.requires.1.0 at-number-at.kind_at.ensures at-if1.if1.true at-number-at2.a_at.ensures _ start.requires.1.1
+    numbers_ask start.requires.1.0 at-number-at.kind_at.ensures at-if1.if1.true at-number-at2.a_at.ensures _ start.requires.1.1
 
 elements-returns : (t : ℕ) → elements-lts.Need-returns (elements-calls t) (elements-at t) elements.Post elements-Inv-loop elements-μ-loop
-elements-returns t c = search (rules, numbers-done)
+elements-returns t c = search (rules, numbers_done)
 
 elements-strict-values-requires : (t : ℕ) → elements-lts.Need-strict-values-requires (elements-calls t) (elements-at t) elements.Post elements-Inv-loop elements-μ-loop
 elements-strict-values-requires t c κs =
     let at-if2 = c.before in
     let at-kind-at = at-if2.before.before in
     let start = at-kind-at.before.before.before.before.before.before.before in
-    strict-run-ask start.requires.1.0 at-kind-at.kind_at.ensures at-if2.if2.true _ start.requires.1.1
+    strict_run_ask start.requires.1.0 at-kind-at.kind_at.ensures at-if2.if2.true _ start.requires.1.1
 
 elements-returns-2 : (t : ℕ) → elements-lts.Need-returns-2 (elements-calls t) (elements-at t) elements.Post elements-Inv-loop elements-μ-loop
 elements-returns-2 t c =
@@ -467,27 +467,27 @@ elements-returns-2 t c =
     let at-if2 = at-strict.before.before in
     let at-kind-at = at-if2.before.before in
     let start = at-kind-at.before.before.before.before.before.before.before in
-    strict-run-done start.requires.1.0 at-kind-at.kind_at.ensures at-if2.if2.true _ _ _ _ _ _ _ _ _ start.requires.1.1 at-strict.strict-values.ensures
+    strict_run_done start.requires.1.0 at-kind-at.kind_at.ensures at-if2.if2.true _ _ _ _ _ _ _ _ _ start.requires.1.1 at-strict.strict-values.ensures
 
 elements-planned-requires : (t : ℕ) → elements-lts.Need-planned-requires (elements-calls t) (elements-at t) elements.Post elements-Inv-loop elements-μ-loop
-elements-planned-requires t c κs = planned-ask c.before.before.before.before.before.before.before.before.before.before.before.before.before.before.before.requires.1.0 c.before.before.before.plan-of.ensures c.before.if3.true c.before.before.before.before.number_at.ensures _ c.before.before.before.before.before.before.before.before.before.before.before.before.before.before.before.requires.1.1
+elements-planned-requires t c κs = planned_ask c.before.before.before.before.before.before.before.before.before.before.before.before.before.before.before.requires.1.0 c.before.before.before.plan-of.ensures c.before.if3.true c.before.before.before.before.number_at.ensures _ c.before.before.before.before.before.before.before.before.before.before.before.before.before.before.before.requires.1.1
 
 elements-returns-3 : (t : ℕ) → elements-lts.Need-returns-3 (elements-calls t) (elements-at t) elements.Post elements-Inv-loop elements-μ-loop
-elements-returns-3 t c = planned-done c.before.before.before.before.before.before.before.before.before.before.before.before.before.before.before.before.before.before.requires.1.0 c.before.before.before.before.before.before.plan-of.ensures c.before.before.before.before.if3.true c.before.before.before.before.before.before.before.number_at.ensures _ _ _ _ _ _ _ _ _ c.before.before.before.before.before.before.before.before.before.before.before.before.before.before.before.before.before.before.requires.1.1 c.before.before.planned.ensures
+elements-returns-3 t c = planned_done c.before.before.before.before.before.before.before.before.before.before.before.before.before.before.before.before.before.before.requires.1.0 c.before.before.before.before.before.before.plan-of.ensures c.before.before.before.before.if3.true c.before.before.before.before.before.before.before.number_at.ensures _ _ _ _ _ _ _ _ _ c.before.before.before.before.before.before.before.before.before.before.before.before.before.before.before.before.before.before.requires.1.1 c.before.before.planned.ensures
 
 elements-loop-holds : (t : ℕ) → elements-lts.Need-loop-init (elements-calls t) (elements-at t) elements.Post elements-Inv-loop elements-μ-loop
-elements-loop-holds t c = (run-start 0 _ _ refl c.before.before.before.before.before.before.before.before.before.before.before.before.before.before.requires.1.1, search rules, search rules)
+elements-loop-holds t c = (run_start 0 _ _ refl c.before.before.before.before.before.before.before.before.before.before.before.before.before.before.requires.1.1, search rules, search rules)
 
 elements-value-requires : (t : ℕ) → elements-lts.Need-value-requires (elements-calls t) (elements-at t) elements.Post elements-Inv-loop elements-μ-loop
-elements-value-requires t c κs = (omega (arith, c.before.before.before.before.before.before.before.before.before.before.before.before.before.before.before.before.before.before.requires.0), (search rules, run-asks c.before.before.before.loop.invariant.0 c.before.before.loop-test.true))
+elements-value-requires t c κs = (omega (arith, c.before.before.before.before.before.before.before.before.before.before.before.before.before.before.before.before.before.before.requires.0), (search rules, run_asks c.before.before.before.loop.invariant.0 c.before.before.loop-test.true))
 
 elements-returns-4 : (t : ℕ) → elements-lts.Need-returns-4 (elements-calls t) (elements-at t) elements.Post elements-Inv-loop elements-μ-loop
-elements-returns-4 t c = run-stopped c.before.before.before.before.before.before.before.before.before.before.before.loop.invariant.0 c.before.before.before.before.before.before.before.before.before.before.loop-test.true c.before.before.before.before.before.before.before.value.ensures c.before.f.given.1
+elements-returns-4 t c = run_stopped c.before.before.before.before.before.before.before.before.before.before.before.loop.invariant.0 c.before.before.before.before.before.before.before.before.before.before.loop-test.true c.before.before.before.before.before.before.before.value.ensures c.before.f.given.1
 
 elements-loop-again : (t : ℕ) → elements-lts.Need-loop-preserved (elements-calls t) (elements-at t) elements.Post elements-Inv-loop elements-μ-loop
 elements-loop-again t c =
     let r = c.before.before.before.before.before.before.before.before.before.before.before.before.before.before.before.before.before.before.before.before.before.before.before.before.before.before.requires.1.0 in
-    (run-next c.before.before.before.before.before.before.before.before.before.before.before.loop.invariant.0 c.before.before.before.before.before.before.before.before.before.before.loop-test.true c.before.before.before.before.before.before.before.value.ensures (row-size r _ r.in_use c.before.before.before.before.before.before.before.before.before.before.before.before.before.before.before.number_at.ensures) c.before.e.given.1, search rules, search rules)
+    (run_next c.before.before.before.before.before.before.before.before.before.before.before.loop.invariant.0 c.before.before.before.before.before.before.before.before.before.before.loop-test.true c.before.before.before.before.before.before.before.value.ensures (row_size r _ r.in_use c.before.before.before.before.before.before.before.before.before.before.before.before.before.before.before.number_at.ensures) c.before.e.given.1, search rules, search rules)
 
 elements-returns-5 : (t : ℕ) → elements-lts.Need-returns-5 (elements-calls t) (elements-at t) elements.Post elements-Inv-loop elements-μ-loop
 elements-returns-5 t c = run_end c.before.loop.invariant.0 c.loop-test.false
@@ -499,7 +499,7 @@ envelopes-calls t = (a-at-reads.Asked, a-at-reads.Learnt, b-at-reads.Asked, b-at
 
 abbrev envelopes-Inv-loop : envelopes-lts.invariant-loop
 envelopes-Inv-loop rows members entries sizes alignments bytes held values₀ objects₀ depth row count at first known d₀ i₀ values objects d i =
-    EnvelopesLeft (typeTable rows members entries) bytes held depth row count at values₀ values objects₀ objects d₀ d i × (i ≤ count)
+    EnvelopesLeft (type_table rows members entries) bytes held depth row count at values₀ values objects₀ objects d₀ d i × (i ≤ count)
     × (length values ≡ length values₀) × (length objects ≡ length objects₀)
 
 abbrev envelopes-μ-loop : envelopes-lts.decreases-loop
@@ -507,13 +507,13 @@ envelopes-μ-loop rows members entries sizes alignments bytes held values₀ obj
     count - i
 
 envelopes-loop-holds : (t : ℕ) → envelopes-lts.Need-loop-init (envelopes-calls t) (envelopes-at t) envelopes.Post envelopes-Inv-loop envelopes-μ-loop
-envelopes-loop-holds t c = (search (rules, envelopes-start), search rules, search rules, search rules)
+envelopes-loop-holds t c = (search (rules, envelopes_start), search rules, search rules, search rules)
 
 envelopes-returns : (t : ℕ) → envelopes-lts.Need-returns (envelopes-calls t) (envelopes-at t) envelopes.Post envelopes-Inv-loop envelopes-μ-loop
-envelopes-returns t c = search (rules, last-absent)
+envelopes-returns t c = search (rules, last_absent)
 
 envelopes-loop-again : (t : ℕ) → envelopes-lts.Need-loop-preserved (envelopes-calls t) (envelopes-at t) envelopes.Post envelopes-Inv-loop envelopes-μ-loop
-envelopes-loop-again t c = (search (rules, one-absent), search rules, search rules, search rules)
+envelopes-loop-again t c = (search (rules, one_absent), search rules, search rules, search rules)
 
 envelopes-content-requires : (t : ℕ) → envelopes-lts.Need-content-requires (envelopes-calls t) (envelopes-at t) envelopes.Post envelopes-Inv-loop envelopes-μ-loop
 envelopes-content-requires t c κs =
@@ -524,8 +524,8 @@ envelopes-content-requires t c κs =
     let at-number-at2 = at-loop.before in
     let at-number-at = at-number-at2.before in
     let start = at-number-at.before.before.before.before.before.before.before in
-    let m = table-members start.requires.1.0 refl at-number-at.a_at.ensures at-number-at2.b_at.ensures start.requires.1.1 in
-    (omega (arith, start.requires.0), (start.requires.1.0, ordinal-fits m _ at-ordinal-of.ordinal-of.result (ordinal-content m _ at-ordinal-of.ordinal-of.result at-ordinal-of.ordinal-of.ensures), content-asks _ _ _ _ _ _ _ _ _ _ at-loop.loop.invariant.0 at-loop-test.loop-test.true at-gave2.gave2.ensures.1))
+    let m = table_members start.requires.1.0 refl at-number-at.a_at.ensures at-number-at2.b_at.ensures start.requires.1.1 in
+    (omega (arith, start.requires.0), (start.requires.1.0, ordinal_fits m _ at-ordinal-of.ordinal-of.result (ordinal_content m _ at-ordinal-of.ordinal-of.result at-ordinal-of.ordinal-of.ensures), content_asks _ _ _ _ _ _ _ _ _ _ at-loop.loop.invariant.0 at-loop-test.loop-test.true at-gave2.gave2.ensures.1))
 
 envelopes-loop-again-2 : (t : ℕ) → envelopes-lts.Need-loop-preserved-2 (envelopes-calls t) (envelopes-at t) envelopes.Post envelopes-Inv-loop envelopes-μ-loop
 envelopes-loop-again-2 t c =
@@ -540,9 +540,9 @@ envelopes-loop-again-2 t c =
     let at-number-at2 = at-loop.before in
     let at-number-at = at-number-at2.before in
     let start = at-number-at.before.before.before.before.before.before.before in
-    let m = table-members start.requires.1.0 refl at-number-at.a_at.ensures at-number-at2.b_at.ensures start.requires.1.1 in
-    let lengths = one-lengths _ _ _ _ _ _ _ _ _ _ at-loop.loop.invariant.0 at-loop-test.loop-test.true at-load64.load64.ensures at-ordinal-of.ordinal-of.result at-if1.if1.false at-number-at.a_at.ensures at-number-at2.b_at.ensures m at-ordinal-of.ordinal-of.ensures at-gave2.gave2.ensures at-content.content.ensures in
-    (one-present _ _ _ _ _ _ _ _ _ _ at-loop.loop.invariant.0 at-loop-test.loop-test.true at-load64.load64.ensures at-ordinal-of.ordinal-of.result at-if1.if1.false at-number-at.a_at.ensures at-number-at2.b_at.ensures m at-ordinal-of.ordinal-of.ensures at-gave2.gave2.ensures at-content.content.ensures at_f.f.given.1, omega (arith, at-loop-test.loop-test.true), lengths.0 ∙ at-loop.loop.invariant.2, lengths.1 ∙ at-loop.loop.invariant.3)
+    let m = table_members start.requires.1.0 refl at-number-at.a_at.ensures at-number-at2.b_at.ensures start.requires.1.1 in
+    let lengths = one_lengths _ _ _ _ _ _ _ _ _ _ at-loop.loop.invariant.0 at-loop-test.loop-test.true at-load64.load64.ensures at-ordinal-of.ordinal-of.result at-if1.if1.false at-number-at.a_at.ensures at-number-at2.b_at.ensures m at-ordinal-of.ordinal-of.ensures at-gave2.gave2.ensures at-content.content.ensures in
+    (one_present _ _ _ _ _ _ _ _ _ _ at-loop.loop.invariant.0 at-loop-test.loop-test.true at-load64.load64.ensures at-ordinal-of.ordinal-of.result at-if1.if1.false at-number-at.a_at.ensures at-number-at2.b_at.ensures m at-ordinal-of.ordinal-of.ensures at-gave2.gave2.ensures at-content.content.ensures at_f.f.given.1, omega (arith, at-loop-test.loop-test.true), lengths.0 ∙ at-loop.loop.invariant.2, lengths.1 ∙ at-loop.loop.invariant.3)
 
 envelopes-returns-2 : (t : ℕ) → envelopes-lts.Need-returns-2 (envelopes-calls t) (envelopes-at t) envelopes.Post envelopes-Inv-loop envelopes-μ-loop
 envelopes-returns-2 t c =
@@ -557,18 +557,18 @@ envelopes-returns-2 t c =
     let at-number-at2 = at-loop.before in
     let at-number-at = at-number-at2.before in
     let start = at-number-at.before.before.before.before.before.before.before in
-    let m = table-members start.requires.1.0 refl at-number-at.a_at.ensures at-number-at2.b_at.ensures start.requires.1.1 in
-    one-refused _ _ _ _ _ _ _ _ _ _ at-loop.loop.invariant.0 at-loop-test.loop-test.true at-load64.load64.ensures at-ordinal-of.ordinal-of.result at-if1.if1.false at-number-at.a_at.ensures at-number-at2.b_at.ensures m at-ordinal-of.ordinal-of.ensures at-gave2.gave2.ensures at-content.content.ensures at-f2.f2.given.1
+    let m = table_members start.requires.1.0 refl at-number-at.a_at.ensures at-number-at2.b_at.ensures start.requires.1.1 in
+    one_refused _ _ _ _ _ _ _ _ _ _ at-loop.loop.invariant.0 at-loop-test.loop-test.true at-load64.load64.ensures at-ordinal-of.ordinal-of.result at-if1.if1.false at-number-at.a_at.ensures at-number-at2.b_at.ensures m at-ordinal-of.ordinal-of.ensures at-gave2.gave2.ensures at-content.content.ensures at-f2.f2.given.1
 
 envelopes-returns-3 : (t : ℕ) → envelopes-lts.Need-returns-3 (envelopes-calls t) (envelopes-at t) envelopes.Post envelopes-Inv-loop envelopes-μ-loop
-envelopes-returns-3 t c = search (rules, envelopes-end)
+envelopes-returns-3 t c = search (rules, envelopes_end)
 
 -- ---- out_of_line: vector, box, table and union
 
 abbrev out-of-line-calls : ℕ → out-of-line-lts.Claims
-out-of-line-calls t = (kind-at-reads.Asked, kind-at-reads.Learnt, a-at-reads.Asked, a-at-reads.Learnt, b-at-reads.Asked, b-at-reads.Learnt, c-at-reads.Asked, c-at-reads.Learnt, number-at-reads.Asked, number-at-reads.Learnt, vector-opened-reads.Asked, vector-opened-reads.Learnt, elements-below t, elements.Post, passed-on-reads.Asked, passed-on-reads.Learnt, box-opened-reads.Asked, box-opened-reads.Learnt, value-below t, value.Post, table-opened-reads.Asked, table-opened-reads.Learnt, envelopes-below t, envelopes.Post, union-member-reads.Asked, union-member-reads.Learnt, content-below t, content.Post)
+out-of-line-calls t = (kind-at-reads.Asked, kind-at-reads.Learnt, a-at-reads.Asked, a-at-reads.Learnt, b-at-reads.Asked, b-at-reads.Learnt, c-at-reads.Asked, c-at-reads.Learnt, number-at-reads.Asked, number-at-reads.Learnt, vector-opened-reads.Asked, vector-opened-reads.Learnt, elements_below t, elements.Post, passed-on-reads.Asked, passed-on-reads.Learnt, box-opened-reads.Asked, box-opened-reads.Learnt, value-below t, value.Post, table-opened-reads.Asked, table-opened-reads.Learnt, envelopes-below t, envelopes.Post, union-member-reads.Asked, union-member-reads.Learnt, content-below t, content.Post)
 
-out-of-line-vector-opened-requires : (t : ℕ) → out-of-line-lts.Need-vector-opened-requires (out-of-line-calls t) (out-of-line-at t) out-of-line.Post
+out-of-line-vector-opened-requires : (t : ℕ) → out-of-line-lts.Need-vector-opened-requires (out-of-line-calls t) (out-of-line-at t) out_of_line_lem.Post
 out-of-line-vector-opened-requires t c κs =
     let at-number-at5 = c.before.before in
     let at-if1 = at-number-at5.before.before in
@@ -576,13 +576,13 @@ out-of-line-vector-opened-requires t c κs =
     let at-number-at = at-number-at2.before in
     let start = at-number-at.before.before.before.before.before.before.before in
     let r = start.requires.1.0 in
-    let h = vector-in-use r at-number-at.kind_at.ensures at-number-at2.a_at.ensures at-if1.if1.true in
-    (ask-bytes (vector-record _ _ at-number-at.kind_at.ensures start.requires.1.2 at-if1.if1.true), omega (arith, row-few r), size_small r _ h at-number-at5.number_at.ensures)
+    let h = vector_in_use r at-number-at.kind_at.ensures at-number-at2.a_at.ensures at-if1.if1.true in
+    (ask_bytes (vector_record _ _ at-number-at.kind_at.ensures start.requires.1.2 at-if1.if1.true), omega (arith, row_few r), size_small r _ h at-number-at5.number_at.ensures)
 
-out-of-line-sub-elements : (t : ℕ) → out-of-line-lts.Need-overflow-sub-elements (out-of-line-calls t) (out-of-line-at t) out-of-line.Post
-out-of-line-sub-elements t c = search (rules, level-left)
+out-of-line-sub-elements : (t : ℕ) → out-of-line-lts.Need-overflow-sub-elements (out-of-line-calls t) (out-of-line-at t) out_of_line_lem.Post
+out-of-line-sub-elements t c = search (rules, level_left)
 
-out-of-line-elements-requires : (t : ℕ) → out-of-line-lts.Need-elements-requires (out-of-line-calls t) (out-of-line-at t) out-of-line.Post
+out-of-line-elements-requires : (t : ℕ) → out-of-line-lts.Need-elements-requires (out-of-line-calls t) (out-of-line-at t) out_of_line_lem.Post
 out-of-line-elements-requires t c κs =
     let at_x = c.before.before.before in
     let at-vector-opened = at_x.before.before.before.before.before.before in
@@ -594,18 +594,18 @@ out-of-line-elements-requires t c κs =
     let at-number-at = at-number-at2.before in
     let start = at-number-at.before.before.before.before.before.before.before in
     let r = start.requires.1.0 in
-    let h = vector-in-use r at-number-at.kind_at.ensures at-number-at2.a_at.ensures at-if1.if1.true in
-    let l = level-left _ _ at-vector-opened.vector-opened.ensures.1 at_x.x.given.1 in
-    let asks = vector-asks (typeTable start.args.rows.now start.args.members.now start.args.entries.now) start.args.bytes.now _ _ _ _ _ _ _ _ _ _ at-number-at.kind_at.ensures start.requires.1.2 at-if1.if1.true at-number-at2.a_at.ensures at-number-at3.b_at.ensures at-number-at4.c-at.ensures start.requires.1.0 at-number-at5.number_at.ensures at-vector-opened.vector-opened.ensures.0 at_x.x.given.1 in
-    (omega (arith, start.requires.0, row-in-use r _ h, elements-few r _ h _ asks, l), (ready_at r _ _ (omega arith) h, asks))
+    let h = vector_in_use r at-number-at.kind_at.ensures at-number-at2.a_at.ensures at-if1.if1.true in
+    let l = level_left _ _ at-vector-opened.vector-opened.ensures.1 at_x.x.given.1 in
+    let asks = vector_asks (type_table start.args.rows.now start.args.members.now start.args.entries.now) start.args.bytes.now _ _ _ _ _ _ _ _ _ _ at-number-at.kind_at.ensures start.requires.1.2 at-if1.if1.true at-number-at2.a_at.ensures at-number-at3.b_at.ensures at-number-at4.c-at.ensures start.requires.1.0 at-number-at5.number_at.ensures at-vector-opened.vector-opened.ensures.0 at_x.x.given.1 in
+    (omega (arith, start.requires.0, row_in_use r _ h, elements_few r _ h _ asks, l), (ready_at r _ _ (omega arith) h, asks))
 
-out-of-line-returns : (t : ℕ) → out-of-line-lts.Need-returns (out-of-line-calls t) (out-of-line-at t) out-of-line.Post
-out-of-line-returns t c = search (rules, vector-closed, c.before.before.before.before.before.before.before.before.before.before.before.before.before.before.before.before.before.before.before.before.before.before.before.requires.1.0, c.before.before.before.before.before.before.before.before.before.before.before.before.before.before.before.before.before.before.before.before.before.before.before.requires.1.2)
+out-of-line-returns : (t : ℕ) → out-of-line-lts.Need-returns (out-of-line-calls t) (out-of-line-at t) out_of_line_lem.Post
+out-of-line-returns t c = search (rules, vector_closed, c.before.before.before.before.before.before.before.before.before.before.before.before.before.before.before.before.before.before.before.before.before.before.before.requires.1.0, c.before.before.before.before.before.before.before.before.before.before.before.before.before.before.before.before.before.before.before.before.before.before.before.requires.1.2)
 
-out-of-line-returns-2 : (t : ℕ) → out-of-line-lts.Need-returns-2 (out-of-line-calls t) (out-of-line-at t) out-of-line.Post
-out-of-line-returns-2 t c = search (rules, vector-refused, c.before.before.before.before.before.before.before.before.before.before.before.before.before.before.before.before.before.before.before.before.before.before.before.requires.1.0, c.before.before.before.before.before.before.before.before.before.before.before.before.before.before.before.before.before.before.before.before.before.before.before.requires.1.2)
+out-of-line-returns-2 : (t : ℕ) → out-of-line-lts.Need-returns-2 (out-of-line-calls t) (out-of-line-at t) out_of_line_lem.Post
+out-of-line-returns-2 t c = search (rules, vector_refused, c.before.before.before.before.before.before.before.before.before.before.before.before.before.before.before.before.before.before.before.before.before.before.before.requires.1.0, c.before.before.before.before.before.before.before.before.before.before.before.before.before.before.before.before.before.before.before.before.before.before.before.requires.1.2)
 
-out-of-line-returns-3 : (t : ℕ) → out-of-line-lts.Need-returns-3 (out-of-line-calls t) (out-of-line-at t) out-of-line.Post
+out-of-line-returns-3 : (t : ℕ) → out-of-line-lts.Need-returns-3 (out-of-line-calls t) (out-of-line-at t) out_of_line_lem.Post
 out-of-line-returns-3 t c =
     let at-elements = c.before.before.before.before.before in
     let at_x = at-elements.before.before.before.before in
@@ -617,9 +617,9 @@ out-of-line-returns-3 t c =
     let at-number-at2 = at-number-at3.before in
     let at-number-at = at-number-at2.before in
     let start = at-number-at.before.before.before.before.before.before.before in
-    rw c.passed_on.ensures (vector-done _ _ _ _ _ _ _ _ _ _ _ _ at-number-at.kind_at.ensures start.requires.1.2 at-if1.if1.true at-number-at2.a_at.ensures at-number-at3.b_at.ensures at-number-at4.c-at.ensures start.requires.1.0 at-number-at5.number_at.ensures at-vector-opened.vector-opened.ensures.0 at_x.x.given.1 at-elements.elements.ensures)
+    rw c.passed_on.ensures (vector_done _ _ _ _ _ _ _ _ _ _ _ _ at-number-at.kind_at.ensures start.requires.1.2 at-if1.if1.true at-number-at2.a_at.ensures at-number-at3.b_at.ensures at-number-at4.c-at.ensures start.requires.1.0 at-number-at5.number_at.ensures at-vector-opened.vector-opened.ensures.0 at_x.x.given.1 at-elements.elements.ensures)
 
-out-of-line-box-opened-requires : (t : ℕ) → out-of-line-lts.Need-box-opened-requires (out-of-line-calls t) (out-of-line-at t) out-of-line.Post
+out-of-line-box-opened-requires : (t : ℕ) → out-of-line-lts.Need-box-opened-requires (out-of-line-calls t) (out-of-line-at t) out_of_line_lem.Post
 out-of-line-box-opened-requires t c κs =
     let at-number-at6 = c.before.before in
     let at-if2 = at-number-at6.before.before in
@@ -627,13 +627,13 @@ out-of-line-box-opened-requires t c κs =
     let at-number-at = at-number-at2.before in
     let start = at-number-at.before.before.before.before.before.before.before in
     let r = start.requires.1.0 in
-    let h = box-in-use r at-number-at.kind_at.ensures at-number-at2.a_at.ensures at-if2.if2.true in
-    (ask-bytes (box-record _ _ at-number-at.kind_at.ensures start.requires.1.2 at-if2.if2.true), omega (arith, row-in-use r _ h), size_small r _ h at-number-at6.number-at2.ensures)
+    let h = box_in_use r at-number-at.kind_at.ensures at-number-at2.a_at.ensures at-if2.if2.true in
+    (ask_bytes (box_record _ _ at-number-at.kind_at.ensures start.requires.1.2 at-if2.if2.true), omega (arith, row_in_use r _ h), size_small r _ h at-number-at6.number-at2.ensures)
 
-out-of-line-sub-value : (t : ℕ) → out-of-line-lts.Need-overflow-sub-value (out-of-line-calls t) (out-of-line-at t) out-of-line.Post
-out-of-line-sub-value t c = search (rules, level-left)
+out-of-line-sub-value : (t : ℕ) → out-of-line-lts.Need-overflow-sub-value (out-of-line-calls t) (out-of-line-at t) out_of_line_lem.Post
+out-of-line-sub-value t c = search (rules, level_left)
 
-out-of-line-value-requires : (t : ℕ) → out-of-line-lts.Need-value-requires (out-of-line-calls t) (out-of-line-at t) out-of-line.Post
+out-of-line-value-requires : (t : ℕ) → out-of-line-lts.Need-value-requires (out-of-line-calls t) (out-of-line-at t) out_of_line_lem.Post
 out-of-line-value-requires t c κs =
     let at-x2 = c.before.before.before in
     let at-box-opened = at-x2.before.before.before.before.before.before in
@@ -643,17 +643,17 @@ out-of-line-value-requires t c κs =
     let at-number-at = at-number-at2.before in
     let start = at-number-at.before.before.before.before.before.before.before in
     let r = start.requires.1.0 in
-    let h = box-in-use r at-number-at.kind_at.ensures at-number-at2.a_at.ensures at-if2.if2.true in
-    let l = level-left _ _ at-box-opened.box-opened.ensures.1 at-x2.x2.given.1 in
-    (omega (arith, start.requires.0, row-in-use r _ h, l), (ready_at r _ _ (omega arith) h, box-asks (typeTable start.args.rows.now start.args.members.now start.args.entries.now) start.args.bytes.now _ _ _ _ _ _ _ _ _ _ at-number-at.kind_at.ensures start.requires.1.2 at-if2.if2.true at-number-at2.a_at.ensures start.requires.1.0 at-number-at6.number-at2.ensures at-box-opened.box-opened.ensures.0 at-x2.x2.given.1))
+    let h = box_in_use r at-number-at.kind_at.ensures at-number-at2.a_at.ensures at-if2.if2.true in
+    let l = level_left _ _ at-box-opened.box-opened.ensures.1 at-x2.x2.given.1 in
+    (omega (arith, start.requires.0, row_in_use r _ h, l), (ready_at r _ _ (omega arith) h, box_asks (type_table start.args.rows.now start.args.members.now start.args.entries.now) start.args.bytes.now _ _ _ _ _ _ _ _ _ _ at-number-at.kind_at.ensures start.requires.1.2 at-if2.if2.true at-number-at2.a_at.ensures start.requires.1.0 at-number-at6.number-at2.ensures at-box-opened.box-opened.ensures.0 at-x2.x2.given.1))
 
-out-of-line-returns-4 : (t : ℕ) → out-of-line-lts.Need-returns-4 (out-of-line-calls t) (out-of-line-at t) out-of-line.Post
-out-of-line-returns-4 t c = search (rules, box-absent, c.before.before.before.before.before.before.before.before.before.before.before.before.before.before.before.before.before.before.before.before.before.before.before.before.requires.1.0, c.before.before.before.before.before.before.before.before.before.before.before.before.before.before.before.before.before.before.before.before.before.before.before.before.requires.1.2)
+out-of-line-returns-4 : (t : ℕ) → out-of-line-lts.Need-returns-4 (out-of-line-calls t) (out-of-line-at t) out_of_line_lem.Post
+out-of-line-returns-4 t c = search (rules, box_absent, c.before.before.before.before.before.before.before.before.before.before.before.before.before.before.before.before.before.before.before.before.before.before.before.before.requires.1.0, c.before.before.before.before.before.before.before.before.before.before.before.before.before.before.before.before.before.before.before.before.before.before.before.before.requires.1.2)
 
-out-of-line-returns-5 : (t : ℕ) → out-of-line-lts.Need-returns-5 (out-of-line-calls t) (out-of-line-at t) out-of-line.Post
-out-of-line-returns-5 t c = search (rules, box-refused, c.before.before.before.before.before.before.before.before.before.before.before.before.before.before.before.before.before.before.before.before.before.before.before.before.requires.1.0, c.before.before.before.before.before.before.before.before.before.before.before.before.before.before.before.before.before.before.before.before.before.before.before.before.requires.1.2)
+out-of-line-returns-5 : (t : ℕ) → out-of-line-lts.Need-returns-5 (out-of-line-calls t) (out-of-line-at t) out_of_line_lem.Post
+out-of-line-returns-5 t c = search (rules, box_refused, c.before.before.before.before.before.before.before.before.before.before.before.before.before.before.before.before.before.before.before.before.before.before.before.before.requires.1.0, c.before.before.before.before.before.before.before.before.before.before.before.before.before.before.before.before.before.before.before.before.before.before.before.before.requires.1.2)
 
-out-of-line-returns-6 : (t : ℕ) → out-of-line-lts.Need-returns-6 (out-of-line-calls t) (out-of-line-at t) out-of-line.Post
+out-of-line-returns-6 : (t : ℕ) → out-of-line-lts.Need-returns-6 (out-of-line-calls t) (out-of-line-at t) out_of_line_lem.Post
 out-of-line-returns-6 t c =
     let at_value = c.before.before.before.before.before in
     let at-x2 = at_value.before.before.before.before in
@@ -663,19 +663,19 @@ out-of-line-returns-6 t c =
     let at-number-at2 = at-if2.before.before.before.before in
     let at-number-at = at-number-at2.before in
     let start = at-number-at.before.before.before.before.before.before.before in
-    rw c.passed-on2.ensures (box-done _ _ _ _ _ _ _ _ _ _ _ _ at-number-at.kind_at.ensures start.requires.1.2 at-if2.if2.true at-number-at2.a_at.ensures start.requires.1.0 at-number-at6.number-at2.ensures at-box-opened.box-opened.ensures.0 at-x2.x2.given.1 at_value.value.ensures)
+    rw c.passed-on2.ensures (box_done _ _ _ _ _ _ _ _ _ _ _ _ at-number-at.kind_at.ensures start.requires.1.2 at-if2.if2.true at-number-at2.a_at.ensures start.requires.1.0 at-number-at6.number-at2.ensures at-box-opened.box-opened.ensures.0 at-x2.x2.given.1 at_value.value.ensures)
 
-out-of-line-table-opened-requires : (t : ℕ) → out-of-line-lts.Need-table-opened-requires (out-of-line-calls t) (out-of-line-at t) out-of-line.Post
+out-of-line-table-opened-requires : (t : ℕ) → out-of-line-lts.Need-table-opened-requires (out-of-line-calls t) (out-of-line-at t) out_of_line_lem.Post
 out-of-line-table-opened-requires t c κs =
     let at-if3 = c.before.before in
     let at-number-at = at-if3.before.before.before.before.before.before in
     let start = at-number-at.before.before.before.before.before.before.before in
-    (ask-bytes (table-record _ _ at-number-at.kind_at.ensures start.requires.1.2 at-if3.if3.true), omega (arith, row-few start.requires.1.0))
+    (ask_bytes (table_record_lem _ _ at-number-at.kind_at.ensures start.requires.1.2 at-if3.if3.true), omega (arith, row_few start.requires.1.0))
 
-out-of-line-sub-envelopes : (t : ℕ) → out-of-line-lts.Need-overflow-sub-envelopes (out-of-line-calls t) (out-of-line-at t) out-of-line.Post
-out-of-line-sub-envelopes t c = search (rules, level-left)
+out-of-line-sub-envelopes : (t : ℕ) → out-of-line-lts.Need-overflow-sub-envelopes (out-of-line-calls t) (out-of-line-at t) out_of_line_lem.Post
+out-of-line-sub-envelopes t c = search (rules, level_left)
 
-out-of-line-envelopes-requires : (t : ℕ) → out-of-line-lts.Need-envelopes-requires (out-of-line-calls t) (out-of-line-at t) out-of-line.Post
+out-of-line-envelopes-requires : (t : ℕ) → out-of-line-lts.Need-envelopes-requires (out-of-line-calls t) (out-of-line-at t) out_of_line_lem.Post
 out-of-line-envelopes-requires t c κs =
     let at-x3 = c.before.before.before in
     let at-table-opened = at-x3.before.before.before.before.before.before in
@@ -683,17 +683,17 @@ out-of-line-envelopes-requires t c κs =
     let at-number-at = at-if3.before.before.before.before.before.before in
     let start = at-number-at.before.before.before.before.before.before.before in
     let r = start.requires.1.0 in
-    let l = level-left _ _ at-table-opened.table-opened.ensures.1 at-x3.x3.given.1 in
-    let asks = table-asks (typeTable start.args.rows.now start.args.members.now start.args.entries.now) start.args.bytes.now _ _ _ _ _ _ _ _ _ _ at-number-at.kind_at.ensures start.requires.1.2 at-if3.if3.true start.requires.1.0 at-table-opened.table-opened.ensures.0 at-x3.x3.given.1 in
+    let l = level_left _ _ at-table-opened.table-opened.ensures.1 at-x3.x3.given.1 in
+    let asks = table_asks (type_table start.args.rows.now start.args.members.now start.args.entries.now) start.args.bytes.now _ _ _ _ _ _ _ _ _ _ at-number-at.kind_at.ensures start.requires.1.2 at-if3.if3.true start.requires.1.0 at-table-opened.table-opened.ensures.0 at-x3.x3.given.1 in
     (omega (arith, start.requires.0, asks.inside, asks.short, l), (ready_at r _ _ (omega arith) r.in_use, sym at-number-at.kind_at.ensures ∙ at-if3.if3.true, asks))
 
-out-of-line-returns-7 : (t : ℕ) → out-of-line-lts.Need-returns-7 (out-of-line-calls t) (out-of-line-at t) out-of-line.Post
-out-of-line-returns-7 t c = search (rules, table-closed)
+out-of-line-returns-7 : (t : ℕ) → out-of-line-lts.Need-returns-7 (out-of-line-calls t) (out-of-line-at t) out_of_line_lem.Post
+out-of-line-returns-7 t c = search (rules, table_closed)
 
-out-of-line-returns-8 : (t : ℕ) → out-of-line-lts.Need-returns-8 (out-of-line-calls t) (out-of-line-at t) out-of-line.Post
-out-of-line-returns-8 t c = search (rules, table-refused)
+out-of-line-returns-8 : (t : ℕ) → out-of-line-lts.Need-returns-8 (out-of-line-calls t) (out-of-line-at t) out_of_line_lem.Post
+out-of-line-returns-8 t c = search (rules, table_refused)
 
-out-of-line-returns-9 : (t : ℕ) → out-of-line-lts.Need-returns-9 (out-of-line-calls t) (out-of-line-at t) out-of-line.Post
+out-of-line-returns-9 : (t : ℕ) → out-of-line-lts.Need-returns-9 (out-of-line-calls t) (out-of-line-at t) out_of_line_lem.Post
 out-of-line-returns-9 t c =
     let at-envelopes = c.before.before.before.before.before in
     let at-x3 = at-envelopes.before.before.before.before in
@@ -703,7 +703,7 @@ out-of-line-returns-9 t c =
     let start = at-number-at.before.before.before.before.before.before.before in
     rw c.passed-on3.ensures (table_done _ _ _ _ _ _ _ _ _ _ _ _ at-number-at.kind_at.ensures start.requires.1.2 at-if3.if3.true start.requires.1.0 at-table-opened.table-opened.ensures.0 at-x3.x3.given.1 at-envelopes.envelopes.ensures)
 
-out-of-line-union-member-requires : (t : ℕ) → out-of-line-lts.Need-union-member-requires (out-of-line-calls t) (out-of-line-at t) out-of-line.Post
+out-of-line-union-member-requires : (t : ℕ) → out-of-line-lts.Need-union-member-requires (out-of-line-calls t) (out-of-line-at t) out_of_line_lem.Post
 out-of-line-union-member-requires t c κs =
     let at-if3 = c.before in
     let at-if2 = at-if3.before in
@@ -714,11 +714,11 @@ out-of-line-union-member-requires t c κs =
     let at-number-at = at-number-at2.before in
     let start = at-number-at.before.before.before.before.before.before.before in
     let r = start.requires.1.0 in
-    let q = union-else r at-number-at.kind_at.ensures start.requires.1.1 at-if1.if1.false at-if2.if2.false at-if3.if3.false in
-    let m = union-members r at-number-at.kind_at.ensures at-number-at2.a_at.ensures at-number-at3.b_at.ensures q in
-    (ask-bytes (union-record _ _ at-number-at.kind_at.ensures start.requires.1.2 start.requires.1.0.edition q), omega (arith, m.1, at-number-at4.c-at.ensures), m.0.exist, members-rise m.0)
+    let q = union_else r at-number-at.kind_at.ensures start.requires.1.1 at-if1.if1.false at-if2.if2.false at-if3.if3.false in
+    let m = union_members r at-number-at.kind_at.ensures at-number-at2.a_at.ensures at-number-at3.b_at.ensures q in
+    (ask_bytes (union_record_lem _ _ at-number-at.kind_at.ensures start.requires.1.2 start.requires.1.0.edition q), omega (arith, m.1, at-number-at4.c-at.ensures), m.0.exist, members_rise m.0)
 
-out-of-line-add-content : (t : ℕ) → out-of-line-lts.Need-overflow-add-content (out-of-line-calls t) (out-of-line-at t) out-of-line.Post
+out-of-line-add-content : (t : ℕ) → out-of-line-lts.Need-overflow-add-content (out-of-line-calls t) (out-of-line-at t) out_of_line_lem.Post
 out-of-line-add-content t c =
     let at-if3 = c.before.before.before.before.before.before.before.before.before in
     let at-if2 = at-if3.before in
@@ -726,11 +726,11 @@ out-of-line-add-content t c =
     let at-number-at = at-if1.before.before.before.before in
     let start = at-number-at.before.before.before.before.before.before.before in
     let r = start.requires.1.0 in
-    let q = union-else r at-number-at.kind_at.ensures start.requires.1.1 at-if1.if1.false at-if2.if2.false at-if3.if3.false in
-    let a = union-record _ _ at-number-at.kind_at.ensures start.requires.1.2 start.requires.1.0.edition q in
+    let q = union_else r at-number-at.kind_at.ensures start.requires.1.1 at-if1.if1.false at-if2.if2.false at-if3.if3.false in
+    let a = union_record_lem _ _ at-number-at.kind_at.ensures start.requires.1.2 start.requires.1.0.edition q in
     omega (arith, a.inside, a.short)
 
-out-of-line-content-requires : (t : ℕ) → out-of-line-lts.Need-content-requires (out-of-line-calls t) (out-of-line-at t) out-of-line.Post
+out-of-line-content-requires : (t : ℕ) → out-of-line-lts.Need-content-requires (out-of-line-calls t) (out-of-line-at t) out_of_line_lem.Post
 out-of-line-content-requires t c κs =
     let at-what = c.before.before.before in
     let at-union-member = at-what.before.before.before.before in
@@ -743,18 +743,18 @@ out-of-line-content-requires t c κs =
     let at-number-at = at-number-at2.before in
     let start = at-number-at.before.before.before.before.before.before.before in
     let r = start.requires.1.0 in
-    let q = union-else r at-number-at.kind_at.ensures start.requires.1.1 at-if1.if1.false at-if2.if2.false at-if3.if3.false in
-    let m = union-members r at-number-at.kind_at.ensures at-number-at2.a_at.ensures at-number-at3.b_at.ensures q in
-    let a = union-asks (typeTable start.args.rows.now start.args.members.now start.args.entries.now) start.args.bytes.now _ _ _ _ _ _ start.args.objects.now _ _ at-number-at.kind_at.ensures at-number-at2.a_at.ensures at-number-at3.b_at.ensures at-number-at4.c-at.ensures q start.requires.1.0 start.requires.1.2 at-union-member.union-member.ensures.0 at-what.what.given.1 in
-    (omega (arith, start.requires.0), (r, member-fits m.0 _ _ _ at-union-member.union-member.ensures.1 at-what.what.given.1, a))
+    let q = union_else r at-number-at.kind_at.ensures start.requires.1.1 at-if1.if1.false at-if2.if2.false at-if3.if3.false in
+    let m = union_members r at-number-at.kind_at.ensures at-number-at2.a_at.ensures at-number-at3.b_at.ensures q in
+    let a = union_asks (type_table start.args.rows.now start.args.members.now start.args.entries.now) start.args.bytes.now _ _ _ _ _ _ start.args.objects.now _ _ at-number-at.kind_at.ensures at-number-at2.a_at.ensures at-number-at3.b_at.ensures at-number-at4.c-at.ensures q start.requires.1.0 start.requires.1.2 at-union-member.union-member.ensures.0 at-what.what.given.1 in
+    (omega (arith, start.requires.0), (r, member_fits m.0 _ _ _ at-union-member.union-member.ensures.1 at-what.what.given.1, a))
 
-out-of-line-returns-10 : (t : ℕ) → out-of-line-lts.Need-returns-10 (out-of-line-calls t) (out-of-line-at t) out-of-line.Post
-out-of-line-returns-10 t c = search (rules, union-none, union-else)
+out-of-line-returns-10 : (t : ℕ) → out-of-line-lts.Need-returns-10 (out-of-line-calls t) (out-of-line-at t) out_of_line_lem.Post
+out-of-line-returns-10 t c = search (rules, union_none, union_else)
 
-out-of-line-returns-11 : (t : ℕ) → out-of-line-lts.Need-returns-11 (out-of-line-calls t) (out-of-line-at t) out-of-line.Post
-out-of-line-returns-11 t c = search (rules, union-bad, union-else)
+out-of-line-returns-11 : (t : ℕ) → out-of-line-lts.Need-returns-11 (out-of-line-calls t) (out-of-line-at t) out_of_line_lem.Post
+out-of-line-returns-11 t c = search (rules, union_bad, union_else)
 
-out-of-line-returns-12 : (t : ℕ) → out-of-line-lts.Need-returns-12 (out-of-line-calls t) (out-of-line-at t) out-of-line.Post
+out-of-line-returns-12 : (t : ℕ) → out-of-line-lts.Need-returns-12 (out-of-line-calls t) (out-of-line-at t) out_of_line_lem.Post
 out-of-line-returns-12 t c =
     let at-content = c.before.before.before.before.before in
     let at-what = at-content.before.before.before.before in
@@ -767,16 +767,16 @@ out-of-line-returns-12 t c =
     let at-number-at2 = at-number-at3.before in
     let at-number-at = at-number-at2.before in
     let start = at-number-at.before.before.before.before.before.before.before in
-    let q = union-else start.requires.1.0 at-number-at.kind_at.ensures start.requires.1.1 at-if1.if1.false at-if2.if2.false at-if3.if3.false in
-    rw c.passed-on4.ensures (union-done _ _ _ _ _ _ _ _ _ _ _ at-number-at.kind_at.ensures at-number-at2.a_at.ensures at-number-at3.b_at.ensures at-number-at4.c-at.ensures q start.requires.1.0 start.requires.1.2 at-union-member.union-member.ensures.0 at-what.what.given.1 at-content.content.ensures)
+    let q = union_else start.requires.1.0 at-number-at.kind_at.ensures start.requires.1.1 at-if1.if1.false at-if2.if2.false at-if3.if3.false in
+    rw c.passed-on4.ensures (union_done _ _ _ _ _ _ _ _ _ _ _ at-number-at.kind_at.ensures at-number-at2.a_at.ensures at-number-at3.b_at.ensures at-number-at4.c-at.ensures q start.requires.1.0 start.requires.1.2 at-union-member.union-member.ensures.0 at-what.what.given.1 at-content.content.ensures)
 
 -- ---- value: a value of any kind
 
 abbrev value-calls : ℕ → value-lts.Claims
-value-calls t = (kind-at-reads.Asked, kind-at-reads.Learnt, a-at-reads.Asked, a-at-reads.Learnt, boolean-reads.Asked, boolean-reads.Learnt, number-reads.Asked, number-reads.Learnt, handle-reads.Asked, handle-reads.Learnt, has-parts-reads.Asked, has-parts-reads.Learnt, composite-below t, composite.Post, fill-at-reads.Asked, fill-at-reads.Learnt, b-at-reads.Asked, b-at-reads.Learnt, numbers-reads.Asked, numbers-reads.Learnt, c-at-reads.Asked, c-at-reads.Learnt, string-reads.Asked, string-reads.Learnt, strict-values-reads.Asked, strict-values-reads.Learnt, out-of-line-below t, out-of-line.Post)
+value-calls t = (kind-at-reads.Asked, kind-at-reads.Learnt, a-at-reads.Asked, a-at-reads.Learnt, boolean-reads.Asked, boolean-reads.Learnt, number-reads.Asked, number-reads.Learnt, handle-reads.Asked, handle-reads.Learnt, has-parts-reads.Asked, has-parts-reads.Learnt, composite-below t, composite.Post, fill-at-reads.Asked, fill-at-reads.Learnt, b-at-reads.Asked, b-at-reads.Learnt, numbers-reads.Asked, numbers-reads.Learnt, c-at-reads.Asked, c-at-reads.Learnt, string-reads.Asked, string-reads.Learnt, strict-values-reads.Asked, strict-values-reads.Learnt, out-of-line-below t, out_of_line_lem.Post)
 
 value-returns : (t : ℕ) → value-lts.Need-returns (value-calls t) (value-at t) value.Post
-value-returns t c = search (rules, value-bool)
+value-returns t c = search (rules, value_bool)
 
 value-number-requires : (t : ℕ) → value-lts.Need-number-requires (value-calls t) (value-at t) value.Post
 value-number-requires t c κs =
@@ -784,7 +784,7 @@ value-number-requires t c κs =
     let at-number-at2 = at-if2.before.before in
     let at-number-at = at-number-at2.before in
     let start = at-number-at.before.before.before.before.before.before.before in
-    ((number-ask start.requires.1.0 at-number-at.kind_at.ensures at-if2.if2.true at-number-at2.a_at.ensures).0, omega (arith, start.requires.1.1.small))
+    ((number_ask start.requires.1.0 at-number-at.kind_at.ensures at-if2.if2.true at-number-at2.a_at.ensures).0, omega (arith, start.requires.1.1.small))
 
 value-returns-2 : (t : ℕ) → value-lts.Need-returns-2 (value-calls t) (value-at t) value.Post
 value-returns-2 t c =
@@ -793,10 +793,10 @@ value-returns-2 t c =
     let at-number-at2 = at-if2.before.before in
     let at-number-at = at-number-at2.before in
     let start = at-number-at.before.before.before.before.before.before.before in
-    value-number _ _ _ _ _ _ _ _ _ _ _ at-number-at.kind_at.ensures at-if2.if2.true at-number-at2.a_at.ensures (number-ask start.requires.1.0 at-number-at.kind_at.ensures at-if2.if2.true at-number-at2.a_at.ensures).1 start.requires.1.1.free start.requires.1.1.held at-number.number.ensures
+    value_number _ _ _ _ _ _ _ _ _ _ _ at-number-at.kind_at.ensures at-if2.if2.true at-number-at2.a_at.ensures (number_ask start.requires.1.0 at-number-at.kind_at.ensures at-if2.if2.true at-number-at2.a_at.ensures).1 start.requires.1.1.free start.requires.1.1.held at-number.number.ensures
 
 value-returns-3 : (t : ℕ) → value-lts.Need-returns-3 (value-calls t) (value-at t) value.Post
-value-returns-3 t c = search (rules, value-handle)
+value-returns-3 t c = search (rules, value_handle)
 
 value-composite-requires : (t : ℕ) → value-lts.Need-composite-requires (value-calls t) (value-at t) value.Post
 value-composite-requires t c κs =
@@ -806,7 +806,7 @@ value-composite-requires t c κs =
     (omega (arith, start.requires.0), (start.requires.1.0, sym at-has-parts.has_parts.ensures ∙ at-if5.if5.true, start.requires.1.1))
 
 value-returns-5 : (t : ℕ) → value-lts.Need-returns-5 (value-calls t) (value-at t) value.Post
-value-returns-5 t c = search (rules, value-empty)
+value-returns-5 t c = search (rules, value_empty)
 
 value-numbers-requires : (t : ℕ) → value-lts.Need-numbers-requires (value-calls t) (value-at t) value.Post
 value-numbers-requires t c κs =
@@ -819,27 +819,27 @@ value-numbers-requires t c κs =
     let at-number-at2 = at-if4.before.before.before.before in
     let at-number-at = at-number-at2.before in
     let start = at-number-at.before.before.before.before.before.before.before in
-    array-ask start.requires.1.0 at-number-at.kind_at.ensures at-if4.if4.true at-if6.if6.false at-has-parts.has_parts.ensures at-if5.if5.false at-number-at2.a_at.ensures at-number-at4.b_at.ensures at-number-at3.a-at2.ensures start.requires.1.1
+    array_ask start.requires.1.0 at-number-at.kind_at.ensures at-if4.if4.true at-if6.if6.false at-has-parts.has_parts.ensures at-if5.if5.false at-number-at2.a_at.ensures at-number-at4.b_at.ensures at-number-at3.a-at2.ensures start.requires.1.1
 
 value-returns-6 : (t : ℕ) → value-lts.Need-returns-6 (value-calls t) (value-at t) value.Post
-value-returns-6 t c = search (rules, array-done)
+value-returns-6 t c = search (rules, array_done)
 
 value-string-requires : (t : ℕ) → value-lts.Need-string-requires (value-calls t) (value-at t) value.Post
 value-string-requires t c κs =
     let at-if7 = c.before.before.before.before in
     let at-number-at = at-if7.before.before.before.before.before.before in
     let start = at-number-at.before.before.before.before.before.before.before in
-    (ask-bytes (string-ask _ _ at-number-at.kind_at.ensures at-if7.if7.true start.requires.1.1), omega (arith, row-few start.requires.1.0))
+    (ask_bytes (string_ask _ _ at-number-at.kind_at.ensures at-if7.if7.true start.requires.1.1), omega (arith, row_few start.requires.1.0))
 
 value-returns-7 : (t : ℕ) → value-lts.Need-returns-7 (value-calls t) (value-at t) value.Post
-value-returns-7 t c = search (rules, value-string)
+value-returns-7 t c = search (rules, value_string)
 
 value-strict-values-requires : (t : ℕ) → value-lts.Need-strict-values-requires (value-calls t) (value-at t) value.Post
 value-strict-values-requires t c κs =
     let at-if8 = c.before in
     let at-kind-at = at-if8.before.before.before.before.before.before.before in
     let start = at-kind-at.before.before.before.before.before.before.before in
-    strict-ask start.requires.1.0 at-kind-at.kind_at.ensures at-if8.if8.true start.requires.1.1
+    strict_ask start.requires.1.0 at-kind-at.kind_at.ensures at-if8.if8.true start.requires.1.1
 
 value-same-length-9 : (t : ℕ) → value-lts.Need-same-length-9 (value-calls t) (value-at t) value.Post
 value-same-length-9 t c = search rules
@@ -850,7 +850,7 @@ value-returns-8 t c =
     let at-if8 = at-strict.before.before in
     let at-kind-at = at-if8.before.before.before.before.before.before.before in
     let start = at-kind-at.before.before.before.before.before.before.before in
-    strict-done start.requires.1.0 at-kind-at.kind_at.ensures at-if8.if8.true _ _ _ _ _ _ _ _ start.requires.1.1 at-strict.strict-values.ensures
+    strict_done start.requires.1.0 at-kind-at.kind_at.ensures at-if8.if8.true _ _ _ _ _ _ _ _ start.requires.1.1 at-strict.strict-values.ensures
 
 value-out-of-line-requires : (t : ℕ) → value-lts.Need-out-of-line-requires (value-calls t) (value-at t) value.Post
 value-out-of-line-requires t c κs =
@@ -862,7 +862,7 @@ value-out-of-line-requires t c κs =
     let at-if1 = at-if2.before in
     let at-number-at = at-if1.before.before in
     let start = at-number-at.before.before.before.before.before.before.before in
-    (omega (arith, start.requires.0), (start.requires.1.0, outside-left (typeTable start.args.rows.now start.args.members.now start.args.entries.now) start.args.row at-number-at.kind_at.ensures at-if1.if1.false at-if2.if2.false at-if3.if3.false at-if4.if4.false at-if7.if7.false at-if8.if8.false, start.requires.1.1))
+    (omega (arith, start.requires.0), (start.requires.1.0, outside_left (type_table start.args.rows.now start.args.members.now start.args.entries.now) start.args.row at-number-at.kind_at.ensures at-if1.if1.false at-if2.if2.false at-if3.if3.false at-if4.if4.false at-if7.if7.false at-if8.if8.false, start.requires.1.1))
 
 value-same-length-6 : (t : ℕ) → value-lts.Need-same-length-6 (value-calls t) (value-at t) value.Post
 value-same-length-6 t c = search rules
@@ -954,7 +954,7 @@ pub +composite-content-elements-envelopes-out-of-line-value-spec : {M : Type 1} 
     (λ c. search rules) (envelopes-returns-2 t) (λ c. search rules) (λ c. search rules) (envelopes-returns-3 t))
     (λ t. out-of-line-lts.spec (out-of-line-calls t)
     (out-of-line-at t)
-    out-of-line.Post
+    out_of_line_lem.Post
     (λ c κs. search rules) (λ c κs. search rules) (λ c. search rules) (λ c κs. search rules) (λ c κs. search rules)
     (λ c κs. search rules) (λ c. search rules) (out-of-line-vector-opened-requires t) (λ c. search rules)
     (λ c. search rules) (λ c. search rules) (out-of-line-sub-elements t) (out-of-line-elements-requires t)

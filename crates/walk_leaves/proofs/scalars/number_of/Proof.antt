@@ -1,7 +1,7 @@
 -- `walk_leaves::scalars::number_of` meets its contract: a load for each width; the width that is left is a byte.
 -- Assumes nothing.
 use borrow.Author.Rules.{rules}
-use Rattle.walk_leaves.proofs.InLine.{number-byte}
+use Rattle.walk_leaves.proofs.InLine.{number_byte}
 use Rattle.walk_leaves.proofs.scalars.number_of.Statement.{statement}
 use Rattle.walk_leaves.proofs.scalars.number_of.Tie as tie
 
@@ -15,7 +15,7 @@ returns-3 : tie.Need-returns-3
 returns-3 c = cc
 
 returns-4 : tie.Need-returns-4
-returns-4 c = search (rules, number-byte)
+returns-4 c = search (rules, number_byte)
 
 pub number-of-spec : {M : Type 1} → statement M
 number-of-spec =

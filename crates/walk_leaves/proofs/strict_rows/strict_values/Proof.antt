@@ -4,9 +4,9 @@ use mathlib.Core.Path.{◌≡◌, refl}
 use native.Mathlib.Omega.{arith}
 use borrow.Author.Rules.{rules}
 use lib.ListN.{length}
-use Rattle.strict.proofs.Numbers.{row-width, row-searchable}
-use Rattle.nesting.proofs.Runs.{run-start, run-asks, run_end}
-use Rattle.walk_leaves.proofs.Strict.{StrictLeft, strict-stopped, strict_next}
+use Rattle.strict.proofs.Numbers.{row_width, row_searchable}
+use Rattle.nesting.proofs.Runs.{run_start, run_asks, run_end}
+use Rattle.walk_leaves.proofs.Strict.{StrictLeft, strict_stopped, strict_next}
 use Rattle.walk_leaves.proofs.strict_rows.strict_values.Statement.{statement}
 use Rattle.walk_leaves.proofs.strict_rows.strict_values.Tie as tie
 
@@ -18,25 +18,25 @@ abbrev decreases-loop : tie.decreases-loop
 decreases-loop rows entries bytes values₀ row count at kind width first named d₀ place₀ left₀ values d place left = left
 
 loop-holds : tie.Need-loop-init invariant-loop decreases-loop
-loop-holds c = (run-start 0 _ _ refl c.before.before.before.before.before.before.before.before.requires.1, refl)
+loop-holds c = (run_start 0 _ _ refl c.before.before.before.before.before.before.before.before.requires.1, refl)
 
 number-of-requires : tie.Need-number-of-requires invariant-loop decreases-loop
-number-of-requires c κs = row-width c.before.before.before.before.before.before.before.before.before.before.requires.0 c.before.before.before.before.a_at.ensures
+number-of-requires c κs = row_width c.before.before.before.before.before.before.before.before.before.before.requires.0 c.before.before.before.before.a_at.ensures
 
 allows-requires : tie.Need-allows-requires invariant-loop decreases-loop
-allows-requires c κs = row-searchable c.before.before.before.before.before.before.before.before.before.before.before.requires.0 c.before.before.before.before.before.before.kind_at.ensures c.before.before.before.before.b_at.ensures c.before.before.before.c-at.ensures
+allows-requires c κs = row_searchable c.before.before.before.before.before.before.before.before.before.before.before.requires.0 c.before.before.before.before.before.before.kind_at.ensures c.before.before.before.before.b_at.ensures c.before.before.before.c-at.ensures
 
 returns : tie.Need-returns invariant-loop decreases-loop
-returns c = strict-stopped c.before.before.before.before.before.before.before.before.before.before.before.before.before.before.requires.0 c.before.before.before.before.before.before.before.before.before.kind_at.ensures c.before.before.before.before.before.before.before.before.a_at.ensures c.before.before.before.before.before.before.before.b_at.ensures c.before.before.before.before.before.before.c-at.ensures _ _ c.before.before.before.number_of.ensures c.before.before.allows.ensures c.before.before.before.before.before.loop.invariant.0 c.before.before.before.before.loop-test.true c.before.if1.true c.refused.ensures
+returns c = strict_stopped c.before.before.before.before.before.before.before.before.before.before.before.before.before.before.requires.0 c.before.before.before.before.before.before.before.before.before.kind_at.ensures c.before.before.before.before.before.before.before.before.a_at.ensures c.before.before.before.before.before.before.before.b_at.ensures c.before.before.before.before.before.before.c-at.ensures _ _ c.before.before.before.number_of.ensures c.before.before.allows.ensures c.before.before.before.before.before.loop.invariant.0 c.before.before.before.before.loop-test.true c.before.if1.true c.refused.ensures
 
 gave-requires : tie.Need-gave-requires invariant-loop decreases-loop
 gave-requires c κs =
-    let a = run-asks c.before.before.before.before.before.loop.invariant.0 c.before.before.before.before.loop-test.true in
+    let a = run_asks c.before.before.before.before.before.loop.invariant.0 c.before.before.before.before.loop-test.true in
     omega (arith, a.small)
 
 add-place : tie.Need-overflow-add-place invariant-loop decreases-loop
 add-place c =
-    let a = run-asks c.before.before.before.before.before.before.before.before.loop.invariant.0 c.before.before.before.before.before.before.before.loop-test.true in
+    let a = run_asks c.before.before.before.before.before.before.before.before.loop.invariant.0 c.before.before.before.before.before.before.before.loop-test.true in
     omega (arith, a.inside, a.short, c.before.before.before.before.before.before.before.before.before.before.before.a_at.ensures)
 
 loop-again : tie.Need-loop-preserved invariant-loop decreases-loop

@@ -1,15 +1,15 @@
 -- `taken` meets its contract: 14 where too few handles are left, and else they are used.
 -- Assumes nothing.
 use borrow.Author.Rules.{rules}
-use Rattle.walk_records.proofs.Unknown.{taken-few, taken-all}
+use Rattle.walk_records.proofs.Unknown.{taken_few, taken_all}
 use Rattle.walk_records.proofs.envelopes.taken.Statement.{statement}
 use Rattle.walk_records.proofs.envelopes.taken.Tie as tie
 
 returns : tie.Need-returns
-returns c = λ t bytes values objects content from h. search (rules, taken-few)
+returns c = λ t bytes values objects content from h. search (rules, taken_few)
 
 returns-2 : tie.Need-returns-2
-returns-2 c = λ t bytes values objects content from h. search (rules, taken-all)
+returns-2 c = λ t bytes values objects content from h. search (rules, taken_all)
 
 pub taken-spec : {M : Type 1} → statement M
 taken-spec =

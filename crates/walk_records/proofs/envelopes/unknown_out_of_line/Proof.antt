@@ -2,20 +2,20 @@
 -- Assumes nothing.
 use native.Mathlib.Omega.{arith}
 use borrow.Author.Rules.{rules}
-use Rattle.walk_records.proofs.Giving.{ask-gave}
-use Rattle.walk_records.proofs.Levels.{too-deep}
-use Rattle.walk_records.proofs.Unknown.{raw-out-of-line}
+use Rattle.walk_records.proofs.Giving.{ask_gave}
+use Rattle.walk_records.proofs.Levels.{too_deep_lem}
+use Rattle.walk_records.proofs.Unknown.{raw_out_of_line}
 use Rattle.walk_records.proofs.envelopes.unknown_out_of_line.Statement.{statement}
 use Rattle.walk_records.proofs.envelopes.unknown_out_of_line.Tie as tie
 
 returns : tie.Need-returns
-returns c = λ t. search (rules, too-deep)
+returns c = λ t. search (rules, too_deep_lem)
 
 gave-requires-2 : tie.Need-gave-requires-2
 gave-requires-2 c κs =
     let at-gave = c.before.before.before in
     let start = at-gave.before.before.before.before.before.before.before.before in
-    let ask = ask-gave 6 start.requires.0 at-gave.gave.ensures.1 (omega arith) in
+    let ask = ask_gave 6 start.requires.0 at-gave.gave.ensures.1 (omega arith) in
     omega arith
 
 raw-words-requires : tie.Need-raw-words-requires
@@ -23,7 +23,7 @@ raw-words-requires c κs =
     let at-gave2 = c.before.before.before.before in
     let at-gave = at-gave2.before.before.before.before in
     let start = at-gave.before.before.before.before.before.before.before.before in
-    (ask-gave 5 (ask-gave 6 start.requires.0 at-gave.gave.ensures.1 (omega arith)) at-gave2.gave2.ensures.1 (omega arith), start.requires.1)
+    (ask_gave 5 (ask_gave 6 start.requires.0 at-gave.gave.ensures.1 (omega arith)) at-gave2.gave2.ensures.1 (omega arith), start.requires.1)
 
 returns-2 : tie.Need-returns-2
 returns-2 c =
@@ -33,7 +33,7 @@ returns-2 c =
     let at-load16 = at-gave.before.before in
     let at-load32 = at-load16.before in
     let at-if1 = at-load32.before in
-    λ t. raw-out-of-line t _ _ _ _ _ _ _ _ _ at-if1.if1.false at-load32.load32.ensures at-load16.load16.ensures at-gave.gave.ensures at-gave2.gave2.ensures at-raw-words.raw-words.ensures
+    λ t. raw_out_of_line t _ _ _ _ _ _ _ _ _ at-if1.if1.false at-load32.load32.ensures at-load16.load16.ensures at-gave.gave.ensures at-gave2.gave2.ensures at-raw-words.raw-words.ensures
 
 pub unknown-out-of-line-spec : {M : Type 1} → statement M
 unknown-out-of-line-spec =

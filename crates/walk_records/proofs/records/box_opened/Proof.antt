@@ -2,22 +2,22 @@
 -- Assumes nothing.
 use native.Mathlib.Omega.{arith}
 use borrow.Author.Rules.{rules}
-use Rattle.walk_records.proofs.Openings.{bytes-gave}
-use Rattle.walk_records.proofs.Boxes.{box-closed, box-opened, box-refused}
+use Rattle.walk_records.proofs.Openings.{bytes_gave}
+use Rattle.walk_records.proofs.Boxes.{box_closed, box_opened, box_refused}
 use Rattle.walk_records.proofs.records.box_opened.Statement.{statement}
 use Rattle.walk_records.proofs.records.box_opened.Tie as tie
 
 returns : tie.Need-returns
-returns c = search (rules, box-closed)
+returns c = search (rules, box_closed)
 
 deeper-requires : tie.Need-deeper-requires
-deeper-requires c κs = (search (rules, bytes-gave), search rules, omega arith)
+deeper-requires c κs = (search (rules, bytes_gave), search rules, omega arith)
 
 returns-2 : tie.Need-returns-2
-returns-2 c = search (rules, box-opened)
+returns-2 c = search (rules, box_opened)
 
 returns-3 : tie.Need-returns-3
-returns-3 c = search (rules, box-refused)
+returns-3 c = search (rules, box_refused)
 
 pub box-opened-spec : {M : Type 1} → statement M
 box-opened-spec =

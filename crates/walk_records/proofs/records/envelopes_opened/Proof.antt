@@ -1,34 +1,34 @@
 -- `walk_records::records::envelopes_opened` meets its contract: the last envelope lies in the object that was claimed.
 -- Assumes nothing.
 use borrow.Author.Rules.{rules}
-use Rattle.walk_records.proofs.Openings.{opened-count}
-use Rattle.walk_records.proofs.Tables.{last_fits, envelopes-spent, envelopes-over, envelopes-closed, envelopes-refused, envelopes-last-zero, envelopes-none, envelopes-last-present}
+use Rattle.walk_records.proofs.Openings.{opened_count}
+use Rattle.walk_records.proofs.Tables.{last_fits, envelopes_spent, envelopes_over, envelopes_closed, envelopes_refused, envelopes_last_zero, envelopes_none, envelopes_last_present}
 use Rattle.walk_records.proofs.records.envelopes_opened.Statement.{statement}
 use Rattle.walk_records.proofs.records.envelopes_opened.Tie as tie
 
 returns : tie.Need-returns
-returns c = search (rules, envelopes-spent)
+returns c = search (rules, envelopes_spent)
 
 returns-2 : tie.Need-returns-2
-returns-2 c = search (rules, envelopes-over)
+returns-2 c = search (rules, envelopes_over)
 
 add-last : tie.Need-overflow-add-last
 add-last c = search (rules, last_fits)
 
 returns-3 : tie.Need-returns-3
-returns-3 c = search (rules, envelopes-last-zero)
+returns-3 c = search (rules, envelopes_last_zero)
 
 returns-4 : tie.Need-returns-4
-returns-4 c = search (rules, envelopes-closed)
+returns-4 c = search (rules, envelopes_closed)
 
 returns-5 : tie.Need-returns-5
-returns-5 c = search (rules, envelopes-refused)
+returns-5 c = search (rules, envelopes_refused)
 
 returns-6 : tie.Need-returns-6
-returns-6 c = search (rules, envelopes-last-present, opened-count)
+returns-6 c = search (rules, envelopes_last_present, opened_count)
 
 returns-7 : tie.Need-returns-7
-returns-7 c = search (rules, envelopes-none, opened-count)
+returns-7 c = search (rules, envelopes_none, opened_count)
 
 pub envelopes-opened-spec : {M : Type 1} → statement M
 envelopes-opened-spec =

@@ -2,18 +2,18 @@
 -- Assumes nothing.
 use native.Mathlib.Omega.{arith}
 use borrow.Author.Rules.{rules}
-use Rattle.walk_records.proofs.Strings.{valid-judged, broken-judged, broken-place}
+use Rattle.walk_records.proofs.Strings.{valid_judged, broken_judged, broken_place}
 use Rattle.walk_records.proofs.records.judged_text.Statement.{statement}
 use Rattle.walk_records.proofs.records.judged_text.Tie as tie
 
 add-refused : tie.Need-overflow-add-refused
-add-refused c = omega (arith, broken-place _ _ _ c.before.before.before.judge-part.ensures.0 c.before.offset.given.1)
+add-refused c = omega (arith, broken_place _ _ _ c.before.before.before.judge-part.ensures.0 c.before.offset.given.1)
 
 returns : tie.Need-returns
-returns c = search (rules, valid-judged)
+returns c = search (rules, valid_judged)
 
 returns-2 : tie.Need-returns-2
-returns-2 c = search (rules, broken-judged)
+returns-2 c = search (rules, broken_judged)
 
 pub judged-text-spec : {M : Type 1} → statement M
 judged-text-spec =

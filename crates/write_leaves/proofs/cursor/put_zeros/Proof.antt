@@ -2,7 +2,7 @@
 -- Assumes nothing.
 use Prim.Native.Nat.{◌-◌}
 use borrow.Author.Rules.{rules}
-use Rattle.write_leaves.proofs.Filling.{filled-past, Filled, filled_none, filled_more, filled-all, filled-length}
+use Rattle.write_leaves.proofs.Filling.{filled_past, Filled, filled_none, filled_more, filled_all, filled_length}
 use Rattle.write_leaves.proofs.cursor.put_zeros.Statement.{statement}
 use Rattle.write_leaves.proofs.cursor.put_zeros.Tie as tie
 
@@ -13,7 +13,7 @@ abbrev decreases-loop : tie.decreases-loop
 decreases-loop out₀ at count i₀ out i = count - i
 
 returns : tie.Need-returns invariant-loop decreases-loop
-returns c = search (rules, filled-past)
+returns c = search (rules, filled_past)
 
 loop-holds : tie.Need-loop-init invariant-loop decreases-loop
 loop-holds c = search (rules, filled_none)
@@ -22,10 +22,10 @@ loop-again : tie.Need-loop-preserved invariant-loop decreases-loop
 loop-again c = search (rules, filled_more)
 
 same_length : tie.Need-same-length invariant-loop decreases-loop
-same_length c = search (rules, filled-length)
+same_length c = search (rules, filled_length)
 
 returns-2 : tie.Need-returns-2 invariant-loop decreases-loop
-returns-2 c = search (rules, filled-all)
+returns-2 c = search (rules, filled_all)
 
 pub put-zeros-spec : {M : Type 1} → statement M
 put-zeros-spec =

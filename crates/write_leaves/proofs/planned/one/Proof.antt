@@ -5,61 +5,61 @@ use Prim.Native.Nat.{◌-◌, ◌≤◌}
 use native.Mathlib.Omega.{arith}
 use borrow.Author.Rules.{rules}
 use lib.ListN.{length}
-use Rattle.plans.specs.Plans.{partsFrom}
-use Rattle.plans.proofs.ByPlan.{parts-start, parts-open, parts-end, part-allowed, part-asks, part-refused, part-on}
-use Rattle.write_leaves.proofs.ByPlan.{PartsLeft, fill-stored}
-use Rattle.write_leaves.proofs.Leading.{ask-stands}
-use Rattle.write_leaves.proofs.Writing.{run-fields}
+use Rattle.plans.specs.Plans.{parts_from}
+use Rattle.plans.proofs.ByPlan.{parts_start, parts_open, parts_end, part_allowed, part_asks, part_refused, part_on}
+use Rattle.write_leaves.proofs.ByPlan.{PartsLeft, fill_stored}
+use Rattle.write_leaves.proofs.Leading.{ask_stands}
+use Rattle.write_leaves.proofs.Writing.{run_fields}
 use Rattle.write_leaves.proofs.planned.one.Statement.{statement}
 use Rattle.write_leaves.proofs.planned.one.Tie as tie
 
 abbrev invariant-loop : tie.invariant-loop
 invariant-loop values out₀ widths fills count at d₀ place₀ i₀ out d place i =
-    PartsLeft values (partsFrom widths fills 0 count) at out₀ d₀ out d (partsFrom widths fills i (count - i)) place × (i ≤ count) × (length out ≡ length out₀)
+    PartsLeft values (parts_from widths fills 0 count) at out₀ d₀ out d (parts_from widths fills i (count - i)) place × (i ≤ count) × (length out ≡ length out₀)
 
 abbrev decreases-loop : tie.decreases-loop
 decreases-loop values out₀ widths fills count at d₀ place₀ i₀ out d place i = count - i
 
 loop-holds : tie.Need-loop-init invariant-loop decreases-loop
-loop-holds c = (parts-start _ _ _ (run-fields _ _ _) c.before.before.requires.1 c.before.before.requires.2, omega arith, refl)
+loop-holds c = (parts_start _ _ _ (run_fields _ _ _) c.before.before.requires.1 c.before.before.requires.2, omega arith, refl)
 
 cast-fill : tie.Need-overflow-cast-fill invariant-loop decreases-loop
 cast-fill c =
-    let p = parts-open c.before.before.before.before.before.before.args.widths.now c.before.before.before.before.before.before.args.fills.now c.before.before.before.loop.i c.before.before.before.before.before.before.args.count c.before.before.before.loop.invariant.0 c.before.before.loop-test.true in
-    omega (arith, part-asks p)
+    let p = parts_open c.before.before.before.before.before.before.args.widths.now c.before.before.before.before.before.before.args.fills.now c.before.before.before.loop.i c.before.before.before.before.before.before.args.count c.before.before.before.loop.invariant.0 c.before.before.loop-test.true in
+    omega (arith, part_asks p)
 
 add-stop : tie.Need-overflow-add-stop invariant-loop decreases-loop
 add-stop c =
-    let p = parts-open c.before.before.before.before.before.before.before.args.widths.now c.before.before.before.before.before.before.before.args.fills.now c.before.before.before.before.loop.i c.before.before.before.before.before.before.before.args.count c.before.before.before.before.loop.invariant.0 c.before.before.before.loop-test.true in
-    omega (arith, part-asks p, c.width-size.ensures)
+    let p = parts_open c.before.before.before.before.before.before.before.args.widths.now c.before.before.before.before.before.before.before.args.fills.now c.before.before.before.before.loop.i c.before.before.before.before.before.before.before.args.count c.before.before.before.before.loop.invariant.0 c.before.before.before.loop-test.true in
+    omega (arith, part_asks p, c.width-size.ensures)
 
 part-requires : tie.Need-part-requires invariant-loop decreases-loop
 part-requires c κs =
-    let p = parts-open c.before.before.before.before.before.before.before.before.args.widths.now c.before.before.before.before.before.before.before.before.args.fills.now c.before.before.before.before.before.loop.i c.before.before.before.before.before.before.before.before.args.count c.before.before.before.before.before.loop.invariant.0 c.before.before.before.before.loop-test.true in
-    (part-allowed p, ask-stands (part-asks p))
+    let p = parts_open c.before.before.before.before.before.before.before.before.args.widths.now c.before.before.before.before.before.before.before.before.args.fills.now c.before.before.before.before.before.loop.i c.before.before.before.before.before.before.before.before.args.count c.before.before.before.before.before.loop.invariant.0 c.before.before.before.before.loop-test.true in
+    (part_allowed p, ask_stands (part_asks p))
 
 put-fill-requires : tie.Need-put-fill-requires invariant-loop decreases-loop
 put-fill-requires c κs =
-    let p = parts-open c.before.before.before.before.before.before.before.before.before.before.before.before.before.before.before.args.widths.now c.before.before.before.before.before.before.before.before.before.before.before.before.before.before.before.args.fills.now c.before.before.before.before.before.before.before.before.before.before.before.before.loop.i c.before.before.before.before.before.before.before.before.before.before.before.before.before.before.before.args.count c.before.before.before.before.before.before.before.before.before.before.before.before.loop.invariant.0 c.before.before.before.before.before.before.before.before.before.before.before.loop-test.true in
-    omega (arith, part-asks p, c.before.before.before.before.before.before.before.before.width-size.ensures)
+    let p = parts_open c.before.before.before.before.before.before.before.before.before.before.before.before.before.before.before.args.widths.now c.before.before.before.before.before.before.before.before.before.before.before.before.before.before.before.args.fills.now c.before.before.before.before.before.before.before.before.before.before.before.before.loop.i c.before.before.before.before.before.before.before.before.before.before.before.before.before.before.before.args.count c.before.before.before.before.before.before.before.before.before.before.before.before.loop.invariant.0 c.before.before.before.before.before.before.before.before.before.before.before.loop-test.true in
+    omega (arith, part_asks p, c.before.before.before.before.before.before.before.before.width-size.ensures)
 
 add-place : tie.Need-overflow-add-place invariant-loop decreases-loop
 add-place c =
-    let p = parts-open c.before.before.before.before.before.before.before.before.before.before.before.before.before.before.before.before.before.before.args.widths.now c.before.before.before.before.before.before.before.before.before.before.before.before.before.before.before.before.before.before.args.fills.now c.before.before.before.before.before.before.before.before.before.before.before.before.before.before.before.loop.i c.before.before.before.before.before.before.before.before.before.before.before.before.before.before.before.before.before.before.args.count c.before.before.before.before.before.before.before.before.before.before.before.before.before.before.before.loop.invariant.0 c.before.before.before.before.before.before.before.before.before.before.before.before.before.before.loop-test.true in
-    omega (arith, part-asks p, c.before.before.before.before.before.before.before.before.before.before.before.width-size.ensures)
+    let p = parts_open c.before.before.before.before.before.before.before.before.before.before.before.before.before.before.before.before.before.before.args.widths.now c.before.before.before.before.before.before.before.before.before.before.before.before.before.before.before.before.before.before.args.fills.now c.before.before.before.before.before.before.before.before.before.before.before.before.before.before.before.loop.i c.before.before.before.before.before.before.before.before.before.before.before.before.before.before.before.before.before.before.args.count c.before.before.before.before.before.before.before.before.before.before.before.before.before.before.before.loop.invariant.0 c.before.before.before.before.before.before.before.before.before.before.before.before.before.before.loop-test.true in
+    omega (arith, part_asks p, c.before.before.before.before.before.before.before.before.before.before.before.width-size.ensures)
 
 loop-again : tie.Need-loop-preserved invariant-loop decreases-loop
 loop-again c =
-    let p = parts-open c.before.before.before.before.before.before.before.before.before.before.before.before.before.before.before.before.before.before.args.widths.now c.before.before.before.before.before.before.before.before.before.before.before.before.before.before.before.before.before.before.args.fills.now c.before.before.before.before.before.before.before.before.before.before.before.before.before.before.before.loop.i c.before.before.before.before.before.before.before.before.before.before.before.before.before.before.before.before.before.before.args.count c.before.before.before.before.before.before.before.before.before.before.before.before.before.before.before.loop.invariant.0 c.before.before.before.before.before.before.before.before.before.before.before.before.before.before.loop-test.true in
-    (part-on p (λ base a. c.before.before.before.before.before.before.before.before.before.part.ensures base) c.before.before.before.before.before.e.given.1 c.before.before.before.before.before.before.before.before.before.before.before.width-size.ensures (fill-stored _ c.before.before.put_fill.ensures) refl, omega (arith, c.before.before.before.before.before.before.before.before.before.before.before.before.before.before.loop-test.true), search rules)
+    let p = parts_open c.before.before.before.before.before.before.before.before.before.before.before.before.before.before.before.before.before.before.args.widths.now c.before.before.before.before.before.before.before.before.before.before.before.before.before.before.before.before.before.before.args.fills.now c.before.before.before.before.before.before.before.before.before.before.before.before.before.before.before.loop.i c.before.before.before.before.before.before.before.before.before.before.before.before.before.before.before.before.before.before.args.count c.before.before.before.before.before.before.before.before.before.before.before.before.before.before.before.loop.invariant.0 c.before.before.before.before.before.before.before.before.before.before.before.before.before.before.loop-test.true in
+    (part_on p (λ base a. c.before.before.before.before.before.before.before.before.before.part.ensures base) c.before.before.before.before.before.e.given.1 c.before.before.before.before.before.before.before.before.before.before.before.width-size.ensures (fill_stored _ c.before.before.put_fill.ensures) refl, omega (arith, c.before.before.before.before.before.before.before.before.before.before.before.before.before.before.loop-test.true), search rules)
 
 returns : tie.Need-returns invariant-loop decreases-loop
 returns c =
-    let p = parts-open c.before.before.before.before.before.before.before.before.before.before.before.before.before.before.args.widths.now c.before.before.before.before.before.before.before.before.before.before.before.before.before.before.args.fills.now c.before.before.before.before.before.before.before.before.before.before.before.loop.i c.before.before.before.before.before.before.before.before.before.before.before.before.before.before.args.count c.before.before.before.before.before.before.before.before.before.before.before.loop.invariant.0 c.before.before.before.before.before.before.before.before.before.before.loop-test.true in
-    part-refused p (λ base a. c.before.before.before.before.before.part.ensures base) c.before.f.given.1
+    let p = parts_open c.before.before.before.before.before.before.before.before.before.before.before.before.before.before.args.widths.now c.before.before.before.before.before.before.before.before.before.before.before.before.before.before.args.fills.now c.before.before.before.before.before.before.before.before.before.before.before.loop.i c.before.before.before.before.before.before.before.before.before.before.before.before.before.before.args.count c.before.before.before.before.before.before.before.before.before.before.before.loop.invariant.0 c.before.before.before.before.before.before.before.before.before.before.loop-test.true in
+    part_refused p (λ base a. c.before.before.before.before.before.part.ensures base) c.before.f.given.1
 
 returns-2 : tie.Need-returns-2 invariant-loop decreases-loop
-returns-2 c = parts-end c.before.before.before.before.args.widths.now c.before.before.before.before.args.fills.now c.before.loop.i c.before.before.before.before.args.count c.before.loop.invariant.0 c.loop-test.false
+returns-2 c = parts_end c.before.before.before.before.args.widths.now c.before.before.before.before.args.fills.now c.before.loop.i c.before.before.before.before.args.count c.before.loop.invariant.0 c.loop-test.false
 
 pub one_spec : {M : Type 1} → statement M
 one_spec =

@@ -5,7 +5,7 @@ use Prim.Native.Nat.{◌+◌}
 use native.Mathlib.Omega.{arith}
 use borrow.Author.Rules.{rules}
 use borrow.Author.Tests.{leb-true}
-use Rattle.write_leaves.proofs.InLine.{bits-within}
+use Rattle.write_leaves.proofs.InLine.{bits_within}
 use Rattle.write_leaves.proofs.scalars.are_within.Statement.{statement}
 use Rattle.write_leaves.proofs.scalars.are_within.Tie as tie
 
@@ -18,7 +18,7 @@ returns-2 c e =
     (omega arith, record { each = λ i k. omega (arith, start.shared-slice-known.given (start.before.args.from + i)) })
 
 returns-3 : tie.Need-returns-3
-returns-3 c e = (omega arith, bits-within (omega arith) c.value-bits.ensures (leb-true _ _ e))
+returns-3 c e = (omega arith, bits_within (omega arith) c.value-bits.ensures (leb-true _ _ e))
 
 pub are-within-spec : {M : Type 1} → statement M
 are-within-spec =

@@ -1,27 +1,27 @@
 -- `write_leaves::scalars::handle` meets its contract: a law for each way that it ends.
 -- Assumes nothing.
 use borrow.Author.Rules.{rules}
-use Rattle.write_leaves.proofs.InLine.{handle-ended, handle-large, handle-required, handle-absent, handle-taken, took-held, took-some}
+use Rattle.write_leaves.proofs.InLine.{handle_ended, handle_large, handle_required, handle_absent, handle_taken, took_held, took_some}
 use Rattle.write_leaves.proofs.scalars.handle.Statement.{statement}
 use Rattle.write_leaves.proofs.scalars.handle.Tie as tie
 
 returns : tie.Need-returns
-returns c = search (rules, handle-ended)
+returns c = search (rules, handle_ended)
 
 returns-2 : tie.Need-returns-2
-returns-2 c = search (rules, handle-large)
+returns-2 c = search (rules, handle_large)
 
 returns-3 : tie.Need-returns-3
-returns-3 c = search (rules, handle-required)
+returns-3 c = search (rules, handle_required)
 
 returns-4 : tie.Need-returns-4
-returns-4 c = search (rules, handle-absent)
+returns-4 c = search (rules, handle_absent)
 
 with-handles-requires : tie.Need-with-handles-requires
-with-handles-requires c κs = search (rules, took-held, took-some)
+with-handles-requires c κs = search (rules, took_held, took_some)
 
 returns-5 : tie.Need-returns-5
-returns-5 c = search (rules, handle-taken)
+returns-5 c = search (rules, handle_taken)
 
 pub handle-spec : {M : Type 1} → statement M
 handle-spec =

@@ -2,7 +2,7 @@
 -- Assumes nothing.
 use native.Mathlib.Omega.{arith}
 use borrow.Author.Rules.{rules}
-use Rattle.write_leaves.proofs.InLine.{run_past, bytes-put}
+use Rattle.write_leaves.proofs.InLine.{run_past, bytes_put}
 use Rattle.write_leaves.proofs.scalars.numbers.Statement.{statement}
 use Rattle.write_leaves.proofs.scalars.numbers.Tie as tie
 
@@ -20,7 +20,7 @@ put-bytes-requires c κs =
     search (rules, judged.0, judged.1)
 
 returns-2 : tie.Need-returns-2
-returns-2 c = search (rules, bytes-put)
+returns-2 c = search (rules, bytes_put)
 
 pub numbers-spec : {M : Type 1} → statement M
 numbers-spec =

@@ -4,7 +4,7 @@ use mathlib.Core.Path.{◌≡◌}
 use Prim.Native.Nat.{◌+◌, ◌-◌}
 use lib.ListN.{length}
 use borrow.Author.Rules.{rules}
-use Rattle.write_leaves.proofs.InLine.{Run, bytes-none, byte_more, byte_fits, run-all}
+use Rattle.write_leaves.proofs.InLine.{Run, bytes_none, byte_more, byte_fits, run_all}
 use Rattle.write_leaves.proofs.scalars.put_bytes.Statement.{statement}
 use Rattle.write_leaves.proofs.scalars.put_bytes.Tie as tie
 
@@ -15,7 +15,7 @@ abbrev decreases-loop : tie.decreases-loop
 decreases-loop values out₀ count at c from i₀ out i = count - i
 
 loop-holds : tie.Need-loop-init invariant-loop decreases-loop
-loop-holds c = search (rules, bytes-none)
+loop-holds c = search (rules, bytes_none)
 
 cast-out : tie.Need-overflow-cast-out invariant-loop decreases-loop
 cast-out c = search (rules, byte_fits)
@@ -30,7 +30,7 @@ same_length : tie.Need-same-length invariant-loop decreases-loop
 same_length c = search rules
 
 returns : tie.Need-returns invariant-loop decreases-loop
-returns c = search (rules, run-all)
+returns c = search (rules, run_all)
 
 pub put-bytes-spec : {M : Type 1} → statement M
 put-bytes-spec =

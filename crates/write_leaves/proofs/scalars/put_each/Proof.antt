@@ -2,7 +2,7 @@
 -- on with those that are left. Assumes nothing.
 use Prim.Native.Nat.{◌-◌}
 use borrow.Author.Rules.{rules}
-use Rattle.write_leaves.proofs.InLine.{Run, run_none, run_more, run-all, run-ended, run-large, run_length, next_fits}
+use Rattle.write_leaves.proofs.InLine.{Run, run_none, run_more, run_all, run_ended, run_large, run_length, next_fits}
 use Rattle.write_leaves.proofs.scalars.put_each.Statement.{statement}
 use Rattle.write_leaves.proofs.scalars.put_each.Tie as tie
 
@@ -19,13 +19,13 @@ same_length : tie.Need-same-length invariant-loop decreases-loop
 same_length c = search (rules, run_length)
 
 returns : tie.Need-returns invariant-loop decreases-loop
-returns c = search (rules, run-ended)
+returns c = search (rules, run_ended)
 
 same-length-2 : tie.Need-same-length-2 invariant-loop decreases-loop
 same-length-2 c = search (rules, run_length)
 
 returns-2 : tie.Need-returns-2 invariant-loop decreases-loop
-returns-2 c = search (rules, run-large)
+returns-2 c = search (rules, run_large)
 
 loop-again : tie.Need-loop-preserved invariant-loop decreases-loop
 loop-again c = search (rules, run_more)
@@ -34,7 +34,7 @@ same-length-3 : tie.Need-same-length-3 invariant-loop decreases-loop
 same-length-3 c = search (rules, run_length)
 
 returns-3 : tie.Need-returns-3 invariant-loop decreases-loop
-returns-3 c = search (rules, run-all)
+returns-3 c = search (rules, run_all)
 
 pub put-each-spec : {M : Type 1} → statement M
 put-each-spec =

@@ -1,7 +1,7 @@
 -- `write_leaves::scalars::put_word` meets its contract: a store for each width; the width that is left is 8.
 -- Assumes nothing.
 use borrow.Author.Rules.{rules}
-use Rattle.write_leaves.proofs.InLine.{fits_one, fits-two, fits-four, eight-stored}
+use Rattle.write_leaves.proofs.InLine.{fits_one, fits_two, fits_four, eight_stored}
 use Rattle.write_leaves.proofs.scalars.put_word.Statement.{statement}
 use Rattle.write_leaves.proofs.scalars.put_word.Tie as tie
 
@@ -9,10 +9,10 @@ cast-store8 : tie.Need-overflow-cast-store8
 cast-store8 c = search (rules, fits_one)
 
 cast-store16 : tie.Need-overflow-cast-store16
-cast-store16 c = search (rules, fits-two)
+cast-store16 c = search (rules, fits_two)
 
 cast-store32 : tie.Need-overflow-cast-store32
-cast-store32 c = search (rules, fits-four)
+cast-store32 c = search (rules, fits_four)
 
 returns : tie.Need-returns
 returns c = cc
@@ -24,7 +24,7 @@ returns-3 : tie.Need-returns-3
 returns-3 c = cc
 
 returns-4 : tie.Need-returns-4
-returns-4 c = search (rules, eight-stored)
+returns-4 c = search (rules, eight_stored)
 
 pub put-word-spec : {M : Type 1} → statement M
 put-word-spec =

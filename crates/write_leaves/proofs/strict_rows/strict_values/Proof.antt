@@ -4,9 +4,9 @@ use mathlib.Core.Path.{◌≡◌, refl}
 use native.Mathlib.Omega.{arith}
 use borrow.Author.Rules.{rules}
 use lib.ListN.{length}
-use Rattle.strict.proofs.Numbers.{row-width, row-searchable}
-use Rattle.nesting.proofs.Runs.{run-start, run-asks, run_end}
-use Rattle.write_leaves.proofs.Strict.{StrictLeft, strict-small, strict-ended, strict-stopped, strict_next}
+use Rattle.strict.proofs.Numbers.{row_width, row_searchable}
+use Rattle.nesting.proofs.Runs.{run_start, run_asks, run_end}
+use Rattle.write_leaves.proofs.Strict.{StrictLeft, strict_small, strict_ended, strict_stopped, strict_next}
 use Rattle.write_leaves.proofs.strict_rows.strict_values.Statement.{statement}
 use Rattle.write_leaves.proofs.strict_rows.strict_values.Tie as tie
 
@@ -18,31 +18,31 @@ abbrev decreases-loop : tie.decreases-loop
 decreases-loop rows entries values out₀ row count at kind width first named most d₀ place₀ left₀ out d place left = left
 
 largest-requires : tie.Need-largest-requires invariant-loop decreases-loop
-largest-requires c κs = row-width c.before.before.before.before.before.before.before.before.requires.0 c.before.before.a_at.ensures
+largest-requires c κs = row_width c.before.before.before.before.before.before.before.before.requires.0 c.before.before.a_at.ensures
 
 loop-holds : tie.Need-loop-init invariant-loop decreases-loop
-loop-holds c = (run-start 0 _ _ refl c.before.before.before.before.before.before.before.before.before.requires.1, refl)
+loop-holds c = (run_start 0 _ _ refl c.before.before.before.before.before.before.before.before.before.requires.1, refl)
 
 returns : tie.Need-returns invariant-loop decreases-loop
-returns c = strict-ended c.before.before.before.before.before.before.before.before.before.before.before.before.before.requires.0 _ c.before.before.before.loop.invariant.0 c.before.before.loop-test.true c.before.if1.true c.refused.ensures
+returns c = strict_ended c.before.before.before.before.before.before.before.before.before.before.before.before.before.requires.0 _ c.before.before.before.loop.invariant.0 c.before.before.loop-test.true c.before.if1.true c.refused.ensures
 
 allows-requires : tie.Need-allows-requires invariant-loop decreases-loop
-allows-requires c κs = row-searchable c.before.before.before.before.before.before.before.before.before.before.before.before.before.requires.0 c.before.before.before.before.before.before.before.before.kind_at.ensures c.before.before.before.before.before.before.b_at.ensures c.before.before.before.before.before.c-at.ensures
+allows-requires c κs = row_searchable c.before.before.before.before.before.before.before.before.before.before.before.before.before.requires.0 c.before.before.before.before.before.before.before.before.kind_at.ensures c.before.before.before.before.before.before.b_at.ensures c.before.before.before.before.before.c-at.ensures
 
 returns-2 : tie.Need-returns-2 invariant-loop decreases-loop
-returns-2 c = strict-stopped c.before.before.before.before.before.before.before.before.before.before.before.before.before.before.before.before.requires.0 c.before.before.before.before.before.before.before.before.before.before.before.kind_at.ensures c.before.before.before.before.before.before.before.before.before.before.a_at.ensures c.before.before.before.before.before.before.before.before.before.b_at.ensures c.before.before.before.before.before.before.before.before.c-at.ensures _ _ c.before.before.before.before.before.before.before.largest.ensures c.before.before.allows.ensures _ c.before.before.before.before.before.before.loop.invariant.0 c.before.before.before.before.before.loop-test.true c.before.before.before.before.if1.false c.before.before.before.value-at.ensures c.before.if2.true c.refused2.ensures
+returns-2 c = strict_stopped c.before.before.before.before.before.before.before.before.before.before.before.before.before.before.before.before.requires.0 c.before.before.before.before.before.before.before.before.before.before.before.kind_at.ensures c.before.before.before.before.before.before.before.before.before.before.a_at.ensures c.before.before.before.before.before.before.before.before.before.b_at.ensures c.before.before.before.before.before.before.before.before.c-at.ensures _ _ c.before.before.before.before.before.before.before.largest.ensures c.before.before.allows.ensures _ c.before.before.before.before.before.before.loop.invariant.0 c.before.before.before.before.before.loop-test.true c.before.before.before.before.if1.false c.before.before.before.value-at.ensures c.before.if2.true c.refused2.ensures
 
 put-number-requires : tie.Need-put-number-requires invariant-loop decreases-loop
-put-number-requires c κs = (row-width c.before.before.before.before.before.before.before.before.before.before.before.before.before.before.before.before.requires.0 c.before.before.before.before.before.before.before.before.before.before.a_at.ensures, strict-small _ _ _ _ c.before.before.before.before.before.before.before.largest.ensures c.before.if2.false)
+put-number-requires c κs = (row_width c.before.before.before.before.before.before.before.before.before.before.before.before.before.before.before.before.requires.0 c.before.before.before.before.before.before.before.before.before.before.a_at.ensures, strict_small _ _ _ _ c.before.before.before.before.before.before.before.largest.ensures c.before.if2.false)
 
 took-requires : tie.Need-took-requires invariant-loop decreases-loop
 took-requires c κs =
-    let a = run-asks c.before.before.before.before.before.before.before.before.before.loop.invariant.0 c.before.before.before.before.before.before.before.before.loop-test.true in
+    let a = run_asks c.before.before.before.before.before.before.before.before.before.loop.invariant.0 c.before.before.before.before.before.before.before.before.loop-test.true in
     omega (arith, a.left)
 
 add-place : tie.Need-overflow-add-place invariant-loop decreases-loop
 add-place c =
-    let a = run-asks c.before.before.before.before.before.before.before.before.before.before.loop.invariant.0 c.before.before.before.before.before.before.before.before.before.loop-test.true in
+    let a = run_asks c.before.before.before.before.before.before.before.before.before.before.loop.invariant.0 c.before.before.before.before.before.before.before.before.before.loop-test.true in
     omega (arith, a.inside, a.free, c.before.before.before.before.before.before.before.before.before.before.before.before.before.before.a_at.ensures)
 
 loop-again : tie.Need-loop-preserved invariant-loop decreases-loop

@@ -3,18 +3,18 @@
 use mathlib.Core.Path.{refl}
 use native.Mathlib.Omega.{arith}
 use borrow.Author.Rules.{rules}
-use Rattle.write_records.proofs.UnknownContent.{room, words-claimed, out-over, out-ended, out-many, plain_over, plain-put}
+use Rattle.write_records.proofs.UnknownContent.{room, words_claimed, out_over, out_ended, out_many, plain_over, plain_put}
 use Rattle.write_records.proofs.envelopes.unknown_out_of_line.Statement.{statement}
 use Rattle.write_records.proofs.envelopes.unknown_out_of_line.Tie as tie
 
 returns : tie.Need-returns
-returns c = search (rules, out-over)
+returns c = search (rules, out_over)
 
 returns-2 : tie.Need-returns-2
-returns-2 c = search (rules, out-ended)
+returns-2 c = search (rules, out_ended)
 
 returns-3 : tie.Need-returns-3
-returns-3 c = search (rules, out-many)
+returns-3 c = search (rules, out_many)
 
 add-used : tie.Need-overflow-add-used
 add-used c =
@@ -25,13 +25,13 @@ add-used c =
     omega (arith, room start.args.bytes at-value-at.value-at.result at-can-claim.can-claim.ensures at-if3.if3.false)
 
 object-of-numbers-requires : tie.Need-object-of-numbers-requires
-object-of-numbers-requires c κs = (refl, search (rules, words-claimed))
+object-of-numbers-requires c κs = (refl, search (rules, words_claimed))
 
 returns-4 : tie.Need-returns-4
 returns-4 c = search (rules, plain_over)
 
 returns-5 : tie.Need-returns-5
-returns-5 c = search (rules, plain-put)
+returns-5 c = search (rules, plain_put)
 
 pub unknown-out-of-line-spec : {M : Type 1} → statement M
 unknown-out-of-line-spec =

@@ -2,26 +2,26 @@
 -- Assumes nothing.
 use native.Mathlib.Omega.{arith}
 use borrow.Author.Rules.{rules}
-use Rattle.write_leaves.proofs.InLine.{took-held, took-some}
-use Rattle.write_records.proofs.Openings.{took-free}
-use Rattle.write_records.proofs.Boxes.{box-ended, box-large, box-absent, box-opened}
+use Rattle.write_leaves.proofs.InLine.{took_held, took_some}
+use Rattle.write_records.proofs.Openings.{took_free}
+use Rattle.write_records.proofs.Boxes.{box_ended, box_large, box_absent, box_opened}
 use Rattle.write_records.proofs.records.box_opened.Statement.{statement}
 use Rattle.write_records.proofs.records.box_opened.Tie as tie
 
 returns : tie.Need-returns
-returns c = search (rules, box-ended)
+returns c = search (rules, box_ended)
 
 returns-2 : tie.Need-returns-2
-returns-2 c = search (rules, box-large)
+returns-2 c = search (rules, box_large)
 
 returns-3 : tie.Need-returns-3
-returns-3 c = search (rules, box-absent)
+returns-3 c = search (rules, box_absent)
 
 deeper-requires : tie.Need-deeper-requires
-deeper-requires c κs = (search (rules, took-free), search (rules, took-held), search (rules, took-some), omega arith)
+deeper-requires c κs = (search (rules, took_free), search (rules, took_held), search (rules, took_some), omega arith)
 
 returns-4 : tie.Need-returns-4
-returns-4 c = search (rules, box-opened)
+returns-4 c = search (rules, box_opened)
 
 pub box-opened-spec : {M : Type 1} → statement M
 box-opened-spec =

@@ -2,26 +2,26 @@
 -- Assumes nothing.
 use native.Mathlib.Omega.{arith}
 use borrow.Author.Rules.{rules}
-use Rattle.write_leaves.proofs.InLine.{took-held, took-some}
-use Rattle.write_records.proofs.Openings.{took-free, reaches-down}
-use Rattle.write_records.proofs.Tables.{table-ended, table-spent, table-over, table-opened}
+use Rattle.write_leaves.proofs.InLine.{took_held, took_some}
+use Rattle.write_records.proofs.Openings.{took_free, reaches_down}
+use Rattle.write_records.proofs.Tables.{table_ended, table_spent, table_over, table_opened}
 use Rattle.write_records.proofs.records.table_opened.Statement.{statement}
 use Rattle.write_records.proofs.records.table_opened.Tie as tie
 
 returns : tie.Need-returns
-returns c = search (rules, table-ended)
+returns c = search (rules, table_ended)
 
 returns-2 : tie.Need-returns-2
-returns-2 c = search (rules, table-spent)
+returns-2 c = search (rules, table_spent)
 
 returns-3 : tie.Need-returns-3
-returns-3 c = search (rules, table-over)
+returns-3 c = search (rules, table_over)
 
 claim-requires : tie.Need-claim-requires
-claim-requires c κs = (search (rules, took-free), search (rules, took-held), search (rules, took-some), omega arith)
+claim-requires c κs = (search (rules, took_free), search (rules, took_held), search (rules, took_some), omega arith)
 
 returns-4 : tie.Need-returns-4
-returns-4 c = search (rules, table-opened, reaches-down)
+returns-4 c = search (rules, table_opened, reaches_down)
 
 pub table-opened-spec : {M : Type 1} → statement M
 table-opened-spec =

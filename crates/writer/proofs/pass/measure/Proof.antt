@@ -2,15 +2,15 @@
 -- Assumes nothing.
 use borrow.Author.Rules.{rules}
 use borrow.Author.Tests.{not-true, not-false}
-use Rattle.writer.proofs.Lent.{table-refused, root-refused, root-ready, measured}
+use Rattle.writer.proofs.Lent.{table_refused, root_refused, root_ready, measured}
 use Rattle.writer.proofs.pass.measure.Statement.{statement}
 use Rattle.writer.proofs.pass.measure.Tie as tie
 
 returns : tie.Need-returns
-returns c = search (rules, table-refused)
+returns c = search (rules, table_refused)
 
 returns-2 : tie.Need-returns-2
-returns-2 c = search (rules, root-refused, not-true)
+returns-2 c = search (rules, root_refused, not-true)
 
 pass-requires : tie.Need-pass-requires
 pass-requires c κs =
@@ -18,7 +18,7 @@ pass-requires c κs =
     let sound = allowed.before.before in
     let prepared = sound.before.before in
     let a = prepared.before.before.before.before.before.before.before.args in
-    root-ready _ _ _ a.values.now _ _ prepared.climb.ensures.0 sound.enum_told.given.1
+    root_ready _ _ _ a.values.now _ _ prepared.climb.ensures.0 sound.enum_told.given.1
     allowed.before.root-allowed.ensures (not-false _ allowed.if1.false) _ _ prepared.climb.ensures.1.0 prepared.climb.ensures.1.1
 
 returns-3 : tie.Need-returns-3
