@@ -12,7 +12,7 @@
  * Type table. Three lists: `rows`, four 32-bit numbers a row (kind, a, b, c); `members`, two a member (ordinal, row); and
  * `entries`, 64-bit patterns that strict enums and strict bits name. Each counts from 0; there are 1 to 256 rows, 0 to
  * 1,024 members and 0 to 1,024 entries. Every call judges the table anew. To judge a table alone, ask for the layout of
- * row 0, or prepare it. A struct ratlinery_types, at the end, takes the three lists together.
+ * row 0. A struct ratlinery_types, at the end, takes the three lists together.
  *
  *   kind                             a               b                     c
  *    1  bool                         0               0                     0
@@ -46,22 +46,15 @@
  * after it. Kinds: 1 the root, 2 a vector's or string's content (row of that), 3 a boxed struct, 4 a table's envelopes
  * (the table's row), 5 an out-of-line payload, 6 unknown out-of-line content (row of the table or union).
  *
- * Prepared state. A list of RATLINERY_STATE 32-bit numbers that the caller keeps beside the three lists: how many rows,
- * members and entries are in use, then 256 sizes and 256 alignments, each with a number for every row in use and 0 for the
- * others. All zero is the start state. A state agrees with lists if preparing them gives it; the start state agrees with
- * empty ones. No other list does: not one of another length, nor one with a number that is no count, size or alignment
- * of these lists. Rows, members and entries are added at the end of their lists (ratlinery_append) and taken off there
- * (ratlinery_go_back); what stands before is not changed meanwhile.
- *
  * Lists and buffers.
  * - A list passes as a pointer and the number of its elements (not bytes). A list of length 0 may be any pointer, NULL
  *   included; the tests try it.
  * - 32- and 64-bit lists are aligned to their elements; messages and outputs may start at any byte.
- * - What a function writes (`answer`, `values`, `objects`, `out`, `state`) overlaps nothing else that is handed in. What
- *   it only reads may overlap.
- * - On a refusal `values`, `objects`, `out` and `state` keep all that they held, with 22 too. When accepted, they keep
- *   what they held past what was given.
- * - The library keeps nothing between calls; calls from several threads need no lock.
+ * - What a function writes (`answer`, `values`, `objects`, `out`) overlaps nothing else that is handed in. What it only
+ *   reads may overlap.
+ * - On a refusal `values`, `objects` and `out` keep all that they held, with 22 too. When accepted, they keep what they
+ *   held past what was given.
+ * - No state is kept between calls; calls from several threads need no lock.
  * - A thread with 2 MiB of stack is enough for every call, for the deepest message too.
  */
 #ifndef RATLINERY_H
@@ -78,7 +71,7 @@ extern "C" {
  * of the message where nothing else is named. An index is that of the number judged in the value list. */
 enum {
     RATLINERY_ACCEPTED = 0,
-    RATLINERY_TABLE_NOT_SOUND = 1,        /* table not sound | lowest bad row; 256 for a list's length or a count */
+    RATLINERY_TABLE_NOT_SOUND = 1,        /* table not sound | lowest bad row; 256 if a list's length is wrong */
     RATLINERY_ROOT_NOT_ALLOWED = 2,       /* no such row, or one that is no root | that row */
     RATLINERY_TOO_MANY_BYTES = 3,         /* over 65,536 bytes | 0; of the writer, index */
     RATLINERY_TOO_MANY_HANDLES = 4,       /* over 64 handles | 0; of the writer, index */
@@ -106,12 +99,8 @@ enum {
     RATLINERY_NOT_A_VALUE = 26,           /* the value list is no value of the root | index */
     RATLINERY_BAD_HANDLE_NUMBER = 28,     /* an envelope's handle number is wrong | envelope */
     RATLINERY_UNKNOWN_VALUE = 29,         /* no entry of a strict enum, or a bit outside a mask | field's first byte */
-    RATLINERY_STATE_DISAGREES = 34,       /* a prepared state does not agree with the lists | 0 */
     RATLINERY_IMPOSSIBLE_HANDLES = 35     /* unknown content claims more handles than it has room for | envelope */
 };
-
-/* How many numbers a prepared state has. */
-enum { RATLINERY_STATE = 515 };
 
 /* The layout of a row of any kind.
  * answer: place, size in bytes, alignment in bytes.
@@ -191,6 +180,23 @@ uint32_t ratlinery_epitaph_write(uint8_t flag0, uint8_t flag1, uint8_t flag2, in
  * Refusals: 13, whose place counts from the text's start. */
 uint32_t ratlinery_utf8(const uint8_t *text, size_t text_len, uint64_t *answer, size_t answer_len);
 
+#ifdef RATLINERY_PREPARED
+/* In work: prepared states. The library does not have these functions yet.
+ *
+ * Prepared state. A list of RATLINERY_STATE 32-bit numbers that the caller keeps beside the three lists: how many rows,
+ * members and entries are in use, then 256 sizes and 256 alignments, each with a number for every row in use and 0 for the
+ * others. All zero is the start state. A state agrees with lists if preparing them gives it; the start state agrees with
+ * empty ones. No other list does: not one of another length, nor one with a number that is no count, size or alignment
+ * of these lists. Rows, members and entries are added at the end of their lists (ratlinery_append) and taken off there
+ * (ratlinery_go_back); what stands before is not changed meanwhile.
+ *
+ * A state, too, overlaps nothing else that is handed in where it is written, keeps all that it held on a refusal, and past what was given
+ * when accepted. With 1, row 256 also stands for a count to go back to. */
+enum {
+    RATLINERY_STATE_DISAGREES = 34,       /* a prepared state does not agree with the lists | 0 */
+    RATLINERY_STATE = 515                 /* how many numbers a prepared state has */
+};
+
 /* Stores the state of a whole type table to the start of `state`, whatever that held.
  * answer: place.
  * Refusals: 1; 22 with RATLINERY_STATE. */
@@ -224,6 +230,7 @@ uint32_t ratlinery_check_prepared(const uint32_t *rows, size_t rows_len, const u
                                   const uint64_t *entries, size_t entries_len, const uint32_t *state,
                                   size_t state_len, uint32_t root, const uint8_t *message, size_t message_len,
                                   uint64_t handles, uint64_t *answer, size_t answer_len);
+#endif
 
 /* A type table's three lists together. For each function ratlinery_NAME that takes the lists, ratlinery_types_NAME takes a
  * pointer to this in their place, and is the same else. */
@@ -281,6 +288,7 @@ static inline uint32_t ratlinery_types_write(const struct ratlinery_types *types
     return ratlinery_write(RATLINERY_LISTS, root, values, values_len, out, out_len, answer, answer_len);
 }
 
+#ifdef RATLINERY_PREPARED
 static inline uint32_t ratlinery_types_prepare(const struct ratlinery_types *types, uint32_t *state, size_t state_len,
                                                uint64_t *answer, size_t answer_len) {
     return ratlinery_prepare(RATLINERY_LISTS, state, state_len, answer, answer_len);
@@ -304,6 +312,7 @@ static inline uint32_t ratlinery_types_check_prepared(const struct ratlinery_typ
     return ratlinery_check_prepared(RATLINERY_LISTS, state, state_len, root, message, message_len, handles, answer,
                                     answer_len);
 }
+#endif
 
 #undef RATLINERY_LISTS
 

@@ -66,7 +66,7 @@ def declared(path):
         indent = len(line) - len(line.lstrip())
         if inside is not None and indent <= inside:
             inside = None
-        if re.match(r"^\s*(pub\s+)?(record|data)\b", line):
+        if re.match(r"^\s*(pub\s+)?(record|data)\s", line):
             inside = indent
             continue
         found = HEAD.match(line)
@@ -76,7 +76,7 @@ def declared(path):
         several = re.match(r"^((?:[^\s(){}:;,=]+\s+)*): ", rest + " ")
         if several and inside is not None:
             fields |= {found[3], *several[1].split()}
-        elif without_binders(rest).startswith(": "):
+        elif (without_binders(rest) + " ").startswith(": "):
             names.add(found[3])
     return names, fields
 
@@ -84,7 +84,8 @@ def declared(path):
 def snake(name):
     if name[:1].isupper():
         return name
-    name = re.sub(r"(?<=[a-z0-9])([A-Z])", lambda m: "_" + m[1].lower(), name.replace("ALead", "_a_lead"))
+    name = re.sub(r"([a-z0-9])([A-Z])", r"\1_\2", name)
+    name = re.sub(r"([A-Z])([A-Z][a-z])", r"\1_\2", name).lower()
     return name.replace("-", "_")
 
 
@@ -156,6 +157,17 @@ def respelled(text, new, fields, aliases):
     return NAME.sub(one, text)
 
 
+COMMENT = re.compile(r"(?:^|(?<=\s))(?:--(?=\s|$)|//).*$")
+
+
+def in_parts(line, is_code, turn):
+    """A line turned in its code, and in its comment as far as a name is meant: what stands in backticks, or is in camel case."""
+    comment = COMMENT.search(line) if is_code else re.search("^.*$", line)
+    code, said = (line[: comment.start()], comment[0]) if comment else (line, "")
+    quoted = re.split(r"(`[^`]*`)", said)
+    return turn(code) + "".join(turn(part) if part[:1] == "`" else NAME.sub(lambda m: turn(m[0]) if "-" not in m[0] else m[0], part) for part in quoted)
+
+
 def main():
     check = sys.argv[1:] == ["--check"]
     if sys.argv[1:] and not check:
@@ -168,11 +180,15 @@ def main():
     for path in files("crates/*/specs/**/*.antt", "crates/*/proofs/**/*.antt", "crates/*/src/**/*.rt", "crates/*/must-fail/*.edit"):
         text = path.read_text(encoding="utf-8")
         aliases = set(re.findall(r"^\s*(?:pub )?use [\w.]+ as ([\w-]+)\s*$", text, re.M)) - {"tie"}
+        turn = lambda part: respelled(part, new, fields, aliases)
+        lines = with_lemmas(path, text).split("\n")
         if path.suffix == ".rt":
-            lines = [re.split(r'("(?:[^"\\]|\\.)*")', line) for line in text.split("\n")]
-            turned = "\n".join("".join(part if part[:1] == '"' else respelled(part, new, fields, aliases) for part in line) for line in lines)
+            apart = lambda line: re.split(r'("(?:[^"\\]|\\.)*")', line)
+            turned = ["".join(part if part[:1] == '"' else in_parts(part, True, turn) for part in apart(line)) for line in lines]
         else:
-            turned = respelled(with_lemmas(path, text), new, fields, aliases)
+            is_code = lambda line: path.suffix == ".antt" or re.match("(file|old|new):", line)
+            turned = [in_parts(line, is_code(line), turn) for line in lines]
+        turned = "\n".join(turned)
         if turned != text:
             path.write_text(turned, encoding="utf-8")
     move_contracts()

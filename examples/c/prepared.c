@@ -1,8 +1,8 @@
 /* Keeps a prepared state beside a type table: prepares it once, checks messages with it, adds the type of another pad, and
  * goes back.
  *
- *   rt staticlib ratlinery
- *   cc -Iinclude examples/c/prepared.c target/staticlib/libratlinery.a -o target/prepared && target/prepared
+ *   mkdir -p target && (cd crates/ratlinery && rt lib)
+ *   cc -Iinclude examples/c/prepared.c crates/ratlinery/out/libratlinery.a -o target/prepared && target/prepared
  */
 #include "ratlinery.h"
 

@@ -1,7 +1,7 @@
 /* Reads a message, writes it back, and shows what a refusal looks like.
  *
- *   rt staticlib ratlinery
- *   cc -Iinclude examples/c/read_write.c target/staticlib/libratlinery.a -o target/read_write && target/read_write
+ *   mkdir -p target && (cd crates/ratlinery && rt lib)
+ *   cc -Iinclude examples/c/read_write.c crates/ratlinery/out/libratlinery.a -o target/read_write && target/read_write
  */
 #include "ratlinery.h"
 

@@ -1,8 +1,8 @@
 // Receives a message with its header: reads the header, checks the body and reads its values into a vector. Then meets a
 // button that does not exist, judges a name by itself, and receives an epitaph, whose header is read with its status.
 //
-//   rt staticlib ratlinery
-//   c++ -Iinclude examples/cpp/receive.cpp target/staticlib/libratlinery.a -o target/receive && target/receive
+//   mkdir -p target && (cd crates/ratlinery && rt lib)
+//   c++ -Iinclude examples/cpp/receive.cpp crates/ratlinery/out/libratlinery.a -o target/receive && target/receive
 #include "ratlinery.h"
 
 #include <array>

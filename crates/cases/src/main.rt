@@ -1,7 +1,11 @@
 // Runs the cases of the number stream on standard input, and writes for each operation how many passed and how many
 // failed. A case is a line: its operation's number, the inputs, and the answer that it must give. vectors/make.py makes
 // the stream from the vector files, and finds the vector that a line was made from.
+#![tactic(auto)]
+
 ghost use Rattle.std.specs.Prelude.{◌≡◌, ◌≤◌, length};
+
+use std::io;
 
 // Room for the bytes of a message.
 const MESSAGE_ROOM: usize = 4096;
@@ -20,17 +24,16 @@ const OPERATIONS: usize = 10;
 
 const FAILURES_SHOWN: usize = 8;
 
-fn main() {
+fn main(rt: HostRuntime) -> io::Result<()> {
     let mut text = stream::text_room();
-    let count = io::read_full(0, &mut text);
+    let count = console::read_full(&mut rt.stdin(), &mut text)?;
     if count == stream::TEXT_ROOM {
-        io::write_all(1, b"the stream is too long\n");
-        return;
+        return println!(rt; "the stream is too long");
     }
-    run(&text[..count]);
+    run(&rt, &text[..count])
 }
 
-fn run(text: &[u8]) {
+fn run(rt: &impl Print, text: &[u8]) -> io::Result<()> {
     let mut numbers = stream::line_room();
     let mut passed = [0u64; OPERATIONS];
     let mut failed = [0u64; OPERATIONS];
@@ -48,10 +51,10 @@ fn run(text: &[u8]) {
             continue;
         }
         count_one(&mut failed, operation);
-        show_failure(failures, operation, line);
+        show_failure(rt, failures, operation, line)?;
         failures += 1;
     }
-    report(&passed, &failed);
+    report(rt, &passed, &failed)
 }
 
 fn operation_of(case: &[u64]) -> usize {
@@ -68,30 +71,30 @@ fn count_one(counts: &mut [u64; OPERATIONS], operation: usize) {
 }
 
 // The first failures are named by their line in the stream.
-fn show_failure(failures: usize, operation: usize, line: usize) {
+fn show_failure(rt: &impl Print, failures: usize, operation: usize, line: usize) -> io::Result<()> {
     if failures < FAILURES_SHOWN {
-        write_name(operation);
-        io::write_all(1, b": line ");
-        io::print_decimal(1, line as u64);
-        io::write_all(1, b" failed\n");
+        write_name(rt, operation)?;
+        println!(rt; ": line {line} failed")?;
     }
+    Ok(())
 }
 
-fn report(passed: &[u64; OPERATIONS], failed: &[u64; OPERATIONS]) {
+fn report(
+    rt: &impl Print,
+    passed: &[u64; OPERATIONS],
+    failed: &[u64; OPERATIONS],
+) -> io::Result<()> {
     let mut operation = 0;
     while operation < OPERATIONS {
-        write_counts(operation, passed[operation], failed[operation]);
+        write_counts(rt, operation, passed[operation], failed[operation])?;
         operation += 1;
     }
+    Ok(())
 }
 
-fn write_counts(operation: usize, passed: u64, failed: u64) {
-    write_name(operation);
-    io::write_all(1, b": ");
-    io::print_decimal(1, passed);
-    io::write_all(1, b" passed, ");
-    io::print_decimal(1, failed);
-    io::write_all(1, b" failed\n");
+fn write_counts(rt: &impl Print, operation: usize, passed: u64, failed: u64) -> io::Result<()> {
+    write_name(rt, operation)?;
+    println!(rt; ": {passed} passed, {failed} failed")
 }
 
 // The contract gives the length alone, so that no proof goes into a long list.
@@ -104,18 +107,18 @@ fn message_room() -> [u8; MESSAGE_ROOM]
 // ---- operations: for each a line in these two functions, a function of its own, and a line in vectors/make.py. A function is
 // handed the numbers of a case after its operation's number.
 
-fn write_name(operation: usize) -> bool {
+fn write_name(rt: &impl Print, operation: usize) -> io::Result<()> {
     match operation {
-        1 => io::write_all(1, b"utf8"),
-        2 => io::write_all(1, b"sound"),
-        3 => io::write_all(1, b"layout"),
-        4 => io::write_all(1, b"header_read"),
-        5 => io::write_all(1, b"header_write"),
-        6 => io::write_all(1, b"check"),
-        7 => io::write_all(1, b"read"),
-        8 => io::write_all(1, b"write"),
-        9 => io::write_all(1, b"epitaph_write"),
-        _ => io::write_all(1, b"no operation"),
+        1 => rt.print("utf8"),
+        2 => rt.print("sound"),
+        3 => rt.print("layout"),
+        4 => rt.print("header_read"),
+        5 => rt.print("header_write"),
+        6 => rt.print("check"),
+        7 => rt.print("read"),
+        8 => rt.print("write"),
+        9 => rt.print("epitaph_write"),
+        _ => rt.print("no operation"),
     }
 }
 

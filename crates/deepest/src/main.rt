@@ -1,5 +1,8 @@
 // Reads the deepest message that the rules accept: 33 objects, each boxed in the one before it and each 255 structs deep in
 // line. It shows that this takes little stack.
+#![tactic(auto)]
+
+use std::io;
 
 // The type table's rows: a box of the last row, and structs, each with the row before it as its one member;
 fn put_rows(rows: &mut [u32]) {
@@ -24,7 +27,7 @@ fn put_members(members: &mut [u32]) {
     }
 }
 
-fn main() {
+fn main(rt: HostRuntime) -> io::Result<()> {
     let mut rows = [0u32; 1024];
     let mut members = [0u32; 510];
     put_rows(&mut rows);
@@ -46,16 +49,8 @@ fn main() {
         &mut objects,
     ) {
         reader::Reading::Accepted(n) => {
-            io::write_all(1, b"values=");
-            io::print_decimal(1, n.values as u64);
-            io::write_all(1, b"\nobject numbers=");
-            io::print_decimal(1, n.objects as u64);
-            io::write_all(1, b"\n");
+            println!(rt; "values={}\nobject numbers={}", n.values, n.objects)
         }
-        reader::Reading::Refused(f) => {
-            io::write_all(1, b"refused with ");
-            io::print_decimal(1, f.number as u64);
-            io::write_all(1, b"\n");
-        }
+        reader::Reading::Refused(f) => println!(rt; "refused with {}", f.number),
     }
 }

@@ -1,15 +1,14 @@
 -- Demands 2 and 3 of specs/Demands.antt, proved: from those of the rules, by the promises of the public functions.
 -- Assumes nothing.
 use mathlib.Core.Path.{◌≡◌, refl, sym, ap, ◌∙◌}
-use mathlib.Core.List.{List, [], ◌++◌, append-nil}
-use Prim.Native.Nat.{ℕ, ◌≤◌}
+use mathlib.Core.List.{List, ◌++◌, append-nil}
+use Prim.Native.Nat.{ℕ}
 use native.Mathlib.Omega.{arith}
 use lib.ListN.{length, take, drop}
 use lib.Seq.{drop-length, take_at}
 use Rattle.rules.specs.Refusals.{Answer, accepted, refused, lent_after}
 use Rattle.rules.specs.Bytes.{Octets}
 use Rattle.rules.specs.TypeTable.{TypeTable, type_table}
-use Rattle.rules.specs.Decode.{Message}
 use Rattle.rules.specs.Answers as Rules
 use Rattle.rules.specs.Answers.{Lists, output_after}
 use Rattle.rules.specs.Demands as Of
@@ -30,7 +29,6 @@ use Rattle.writer.specs.declared.Written.{Written}
 use Rattle.writer.specs.declared.Written.TheVariants as Whole
 use Rattle.writer.specs.Answers.{written_of, sizes_of}
 use Rattle.writer.proofs.Numbers.{written_numbers_lem}
-use Rattle.demands.specs.Promises.{Checks, ReadsValues, ReadsObjects, Reads, Writes}
 use Rattle.demands.specs.Demands.{IsReadAs, IsListedAs, IsReadBothAs, IsWrittenAs, Demand2, Canonical, Demand3}
 use Rattle.demands.proofs.More.{values_more, objects_more, write_more, each_of}
 

@@ -167,15 +167,17 @@ trip_too_small m root values_room out-room oct passed short =
 
 module _ (rows members entries message : List ℕ) (root handles : ℕ) (verdict : Verdict) (checked : verdict_of verdict ≡ Rules.check (Doing.message (type_table rows members entries) message handles) root) where
   -- What the round trip promises: its answer, and both lists after it.
-  abbrev Trips : (values values' out out' : List ℕ) → Trip → Type 0
-  Trips values values' out out' r =
-      (r ≡ trip_of (trip (Doing.message (type_table rows members entries) message handles) root (length values) (length out)))
-      × ((values' ≡ lent_after (trip_values (Doing.message (type_table rows members entries) message handles) root (length values) (length out)) values)
-      × (out' ≡ output_after (trip (Doing.message (type_table rows members entries) message handles) root (length values) (length out)) out))
+  abbrev Trips : (lent values' out out' : List ℕ) → Trip → Type 0
+  Trips lent values' out out' r =
+      record {
+        answer : r ≡ trip_of (trip (Doing.message (type_table rows members entries) message handles) root (length lent) (length out));
+        values : values' ≡ lent_after (trip_values (Doing.message (type_table rows members entries) message handles) root (length lent) (length out)) lent;
+        output : out' ≡ output_after (trip (Doing.message (type_table rows members entries) message handles) root (length lent) (length out)) out;
+      }
 
   refused_trip : {values out : List ℕ} {f : Fault} → trip (Doing.message (type_table rows members entries) message handles) root (length values) (length out) ≡ refused f
       → Trips values values out out (Refused f)
-  refused_trip e = (rw e, (rw e, rw e))
+  refused_trip e = record { answer = rw e; values = rw e; output = rw e }
 
   pub trip_unchecked : {values out : List ℕ} {f : Fault} → verdict ≡ Checked.Refused f → Trips values values out out (Refused f)
   trip_unchecked {f = f} e =
@@ -227,11 +229,11 @@ module _ (rows members entries message : List ℕ) (root handles : ℕ) (verdict
       read_written oct q = rw (read_starts q).same (held_written (Doing.message (type_table rows members entries) message handles) root held oct)
 
       pub trip_back : {count : ℕ} (out out' : List ℕ) {r : Trip} → Octets message → length message ≤ length out → g ≡ One.Accepted count
-          → (r ≡ Same) × (out' ≡ message ++ drop (length message) out) → Trips values values' out out' r
+          → record { answer : r ≡ Same; output : out' ≡ message ++ drop (length message) out } → Trips values values' out out' r
       trip_back out out' oct fits q back =
           let x = read_all q in
           let w = held_written (Doing.message (type_table rows members entries) message handles) root held oct (length out) fits in
-          (back.0 ∙ rw (passed, x.0, w), (list ∙ rw (passed, x.0, w), back.1 ∙ rw (passed, x.0, w)))
+          record { answer = back.answer ∙ rw (passed, x.0, w); values = list ∙ rw (passed, x.0, w); output = back.output ∙ rw (passed, x.0, w) }
 
 pub comes_back : (m : Message) (root : ℕ) → ComesBack m root
 comes_back m root oct accepts =

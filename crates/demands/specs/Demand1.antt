@@ -2,7 +2,7 @@
 -- to check. A refusal gives the number and place that document 01 fixes and leaves every lent buffer as it was." It is stated of
 -- every function that a host calls, as its promise stands (Promises.antt, OtherPromises.antt). That none asks anything of its caller:
 -- proofs/Promises.antt and proofs/OtherPromises.antt. The face to C: crate `ratlinery`. The proof: proofs/Demand1.antt.
-use Rattle.std.specs.Prelude.{List, [], ◌∷◌, ◌↔◌, ◌≡◌, ℕ, ℤ, pos, length, drop}
+use Rattle.std.specs.Prelude.{List, [], ◌↔◌, ◌≡◌, ℕ, ℤ, pos, length, drop}
 use Rattle.rules.specs.declared.Fault.{Fault}
 use Rattle.rules.specs.Refusals.{place_number, Answer, accepted, refused, and_then}
 use Rattle.rules.specs.Bytes.{part}

@@ -74,7 +74,7 @@ module _ (rows members entries : List ℕ) (root : ℕ) where
     pub both_are_read : IsReadBothAs message handles values objects
     -- "writing what was read gives back the same bytes and handle count"
     pub round_trip : IsWrittenAs values message handles
-    -- "Its object list has one object for each claim of the walk, unknown out_of_line_lem content included, and no other"
+    -- "Its object list has one object for each claim of the walk, unknown out-of-line content included, and no other"
     pub objects_are_claims : objects ≡ object_list trace
     pub unknown_content_is_an_object : unknown_lengths objects ≡ unknown_out_of_line trace
     -- The object list "takes every byte once": as object, or as zero fill after one.

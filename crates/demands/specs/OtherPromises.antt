@@ -1,6 +1,6 @@
 -- What layout calculator, header, text, listing and round trip promise, each as its `ensures` says it: of what is handed in, the lists lent
 -- before and after, and the answer. That these are the functions' own promises: proofs/OtherPromises.antt.
-use Rattle.std.specs.Prelude.{Bool, List, [], ◌∷◌, ◌≡◌, ℕ, ℤ, length}
+use Rattle.std.specs.Prelude.{Bool, List, ◌≡◌, ℕ, ℤ, length}
 use Rattle.std.proofs.lemmas.List.Edits.{sets}
 use Rattle.rules.specs.Refusals.{lent_after}
 use Rattle.rules.specs.Bytes.{part}

@@ -1,6 +1,8 @@
 // Demand 3's round trip as a function: a message is checked and read, and what was read is written and compared. Its promise
 // says that the message comes back each time. What the three demands say of all public functions: specs/Demand1.antt and
 // specs/Demands.antt.
+#![tactic(auto)]
+
 ghost use Rattle.std.specs.Prelude.{◌≡◌, ◌++◌, ◌≤◌, length, drop};
 ghost use Rattle.rules.specs.declared.Place.TheVariants.{Amount};
 ghost use Rattle.rules.specs.Refusals.{fault, accepted, refused, lent_after};
@@ -17,7 +19,7 @@ use rules::{Fault, Place};
 use writer::Written;
 
 // What came back: the same bytes and handle count, or others; or one of the three operations refused.
-#[derive(Drop)]
+#[derive(Clone, Copy)]
 pub enum Trip {
     Same,
     Different,

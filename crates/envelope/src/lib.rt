@@ -1,4 +1,6 @@
 // What an envelope's numbers allow, for reader and writer alike.
+#![tactic(auto)]
+
 ghost use Rattle.std.specs.Prelude.{◌≡◌};
 ghost use Rattle.rules.specs.Envelope.{claimable};
 

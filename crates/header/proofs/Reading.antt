@@ -1,8 +1,9 @@
 -- What each test that the header reader makes shows of `read_header`.
 -- Assumes nothing.
+use Rattle.std.specs.Prelude.{if◌then◌else◌}
 use mathlib.Core.Path.{◌≡◌, refl, sym, ap, ◌∙◌}
 use mathlib.Core.Bool.{Bool, true, false, not, ◌||◌}
-use mathlib.Core.List.{List, [], ◌∷◌}
+use mathlib.Core.List.{List, []}
 use Prim.Native.Nat.{ℕ, ◌+◌, ◌-◌, ◌≤◌, ◌<◌}
 use native.Mathlib.Omega.{arith}
 use borrow.Author.Tests.{leb-true, le-leb, lt-leb, eq-eqb, ne_eqb}
@@ -12,7 +13,7 @@ use lib.ListN.{length, take, drop, get_or, length-drop}
 use lib.Seq.{take_all}
 use Rattle.rules.specs.declared.Fault.{Fault}
 use Rattle.rules.specs.declared.Place.TheVariants.{Byte}
-use Rattle.rules.specs.Refusals.{if◌then◌else◌, fault, Answer, accepted, require, and_then}
+use Rattle.rules.specs.Refusals.{fault, Answer, accepted, require, and_then}
 use Rattle.rules.specs.Bytes.{part, word, leading_zeros, ones64, signed32}
 use Rattle.rules.specs.Answers.{numbers_of}
 use Rattle.rules.specs.Header as Rules
@@ -45,36 +46,46 @@ header_in_message message h t f g k o = rw (t, f, g, k, o)
 -- ---- what is promised of an answer
 
 abbrev pub Reads : (message : List ℕ) → HeaderAnswer → Type 0
-Reads message answer =
-    (answer_of answer ≡ read_header message)
-    × ((answer_numbers answer ≡ numbers_of 5 Rules.fields (read_header message)) × (status_of answer ≡ status message))
+Reads message r = record {
+  answer : answer_of r ≡ read_header message;
+  numbers : answer_numbers r ≡ numbers_of 5 Rules.fields (read_header message);
+  status : status_of r ≡ Rules.status message;
+}
 
 reads : (message : List ℕ) (answer : HeaderAnswer) → answer_of answer ≡ read_header message → status_of answer ≡ status_after (answer_of answer) message
     → Reads message answer
 unfolding status
-reads message answer told signed = (told, (answer_numbers_lem answer told, signed ∙ ap (λ (a : Answer Rules.Header). status_after a message) told))
+reads message answer told signed = record {
+  answer = told;
+  numbers = answer_numbers_lem answer told;
+  status = signed ∙ ap (λ (a : Answer Rules.Header). status_after a message) told;
+}
 
 -- ---- the tests of an epitaph's body
 
 module _ (message : List ℕ) (h : Header) where
   -- what the reader of an epitaph's body answers
   abbrev pub ReadsBody : HeaderAnswer → Type 0
-  ReadsBody answer = (answer_of answer ≡ require_status message (accepted (header_of h))) × (status_of answer ≡ status_after (answer_of answer) message)
+  ReadsBody r = record {
+    answer : answer_of r ≡ require_status message (accepted (header_of h));
+    status : status_of r ≡ status_after (answer_of r) message;
+  }
 
   pub status_cut_off : {f : Fault} → length message < 24 → f ≡ fault 6 (Byte 16) → ReadsBody (Refused f)
-  status_cut_off short e = (simp (e, lt-leb _ _ short), refl)
+  status_cut_off short e = record { answer = simp (e, lt-leb _ _ short); status = refl }
 
   module _ (whole : 24 ≤ length message) {zeros : ℕ} (counted : zeros ≡ leading_zeros (part message 20 4)) where
     pub status_fill : {f : Fault} → (zeros ≡ 4 → ⊥) → f ≡ fault 7 (Byte (20 + zeros)) → ReadsBody (Refused f)
-    status_fill n e = (simp (e, le-leb _ _ whole, ← counted, ne_eqb _ _ n), refl)
+    status_fill n e = record { answer = simp (e, le-leb _ _ whole, ← counted, ne_eqb _ _ n); status = refl }
 
     module _ (clean : zeros ≡ 4) where
       pub status_bytes_left : {f : Fault} → (length message ≡ 24 → ⊥) → f ≡ fault 20 (Byte 24) → ReadsBody (Refused f)
-      status_bytes_left n e = (simp (e, le-leb _ _ whole, ← counted, eq-eqb _ _ clean, ne_eqb _ _ n), refl)
+      status_bytes_left n e = record { answer = simp (e, le-leb _ _ whole, ← counted, eq-eqb _ _ clean, ne_eqb _ _ n); status = refl }
 
       pub status_read_lem : {pattern : ℕ} {number : ℤ} → is_epitaph (header_of h) ≡ true → length message ≡ 24 → pattern ≡ word message 16 4 → number ≡ signed32 pattern
           → ReadsBody (Accepted h number)
-      status_read_lem epitaph all p n = (simp (le-leb _ _ whole, ← counted, eq-eqb _ _ clean, eq-eqb _ _ all), rw (epitaph, n, p))
+      status_read_lem epitaph all p n =
+          record { answer = simp (le-leb _ _ whole, ← counted, eq-eqb _ _ clean, eq-eqb _ _ all); status = rw (epitaph, n, p) }
 
 -- ---- the header's tests, and of an epitaph those of its body
 
@@ -115,7 +126,7 @@ module _ (message : List ℕ) where
           header_accepted n = reads message (Accepted h (pos 0)) (simp (judged_header, allowed, ne_eqb _ _ n)) (simp (ne_eqb _ _ n))
 
           pub epitaph_read : (answer : HeaderAnswer) → h.ordinal ≡ ones64 → ReadsBody message h answer → Reads message answer
-          epitaph_read answer e body = reads message answer (body.0 ∙ simp (judged_header, allowed, eq-eqb _ _ e)) body.1
+          epitaph_read answer e body = reads message answer (body.answer ∙ simp (judged_header, allowed, eq-eqb _ _ e)) body.status
 
 -- an answer that passed two tests passed the second
 second_passed : {A : Type 0} (first second : Bool) (f g : Fault) (answer : Answer A) {a : A} → require first f (require second g answer) ≡ accepted a → second ≡ true

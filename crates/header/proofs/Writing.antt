@@ -1,8 +1,8 @@
 -- What the writers' stores and tests show of `write_header` and `write_epitaph`.
 -- Assumes nothing.
 use mathlib.Core.Path.{◌≡◌, refl, sym, ap, ◌∙◌}
-use mathlib.Core.List.{List, [], ◌∷◌, ◌++◌}
-use Prim.Native.Nat.{ℕ, ◌+◌, ◌≤◌, ◌<◌}
+use mathlib.Core.List.{List, ◌++◌}
+use Prim.Native.Nat.{ℕ, ◌≤◌, ◌<◌}
 use native.Mathlib.Nat.{mod-eq_of_lt, zero-add}
 use native.Mathlib.Omega.{arith}
 use borrow.Author.Tests.{le-leb, lt-leb}
@@ -44,10 +44,14 @@ stored_lent bytes out room = rw zero-add at (sets-eq bytes out 0 (omega arith))
 
 module _ (rule : Answer (List ℕ)) (out : List ℕ) where
   abbrev pub Wrote : HeaderWritten → (after : List ℕ) → Type 0
-  Wrote r after = (written_of r ≡ byte_count rule) × ((after ≡ lent_after rule out) × (written_numbers r ≡ numbers_of 1 counted rule))
+  Wrote r after = record {
+    answer : written_of r ≡ byte_count rule;
+    output : after ≡ lent_after rule out;
+    numbers : written_numbers r ≡ numbers_of 1 counted rule;
+  }
 
   wrote : (r : HeaderWritten) {after : List ℕ} → written_of r ≡ byte_count rule → after ≡ lent_after rule out → Wrote r after
-  wrote r e left = (e, (left, written_numbers_lem r rule e))
+  wrote r e left = record { answer = e; output = left; numbers = written_numbers_lem r rule e }
 
   refused_as : {f : Fault} → rule ≡ refused f → Wrote (Write.Refused f) out
   refused_as {f} e = wrote (Write.Refused f) (rw e) (rw e)

@@ -1,4 +1,6 @@
 // The transactional header: document 01's section "The header", and W-203 for epitaphs.
+#![tactic(auto)]
+
 ghost use Rattle.std.specs.Prelude.{◌≡◌, true, [], ◌∷◌, ◌+◌, ◌≤◌, length};
 ghost use Rattle.std.proofs.lemmas.List.Edits.{sets};
 ghost use Rattle.rules.specs.declared.Place.TheVariants.{Byte, Amount};
@@ -11,7 +13,7 @@ ghost use Rattle.header.specs.Meaning.{header_of, answer_of, answer_numbers, sta
 const EPITAPH: u64 = 18446744073709551615;
 
 // Transaction number, three flag bytes that are never judged, ordinal. The magic byte is always 1.
-#[derive(Drop)]
+#[derive(Clone, Copy)]
 pub struct Header {
     pub transaction: u32,
     pub flag0: u8,
@@ -21,21 +23,21 @@ pub struct Header {
 }
 
 // What the reader answers. The status is an epitaph's; of every other message it is 0.
-#[derive(Drop)]
+#[derive(Clone, Copy)]
 pub enum HeaderAnswer {
     Accepted { header: Header, status: i32 },
     Refused(rules::Fault),
 }
 
 // What the writers answer: the number of bytes written, or a refusal.
-#[derive(Drop)]
+#[derive(Clone, Copy)]
 pub enum HeaderWritten {
     Bytes(usize),
     Refused(rules::Fault),
 }
 
 // What the tests of the ordinal give, which reader and writer share.
-#[derive(Drop)]
+#[derive(Clone, Copy)]
 enum Ordinal {
     Allowed,
     Refused(rules::Fault),

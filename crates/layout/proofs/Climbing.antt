@@ -12,7 +12,7 @@ use borrow.Author.Count.{below_none, below_more}
 use Rattle.rules.specs.declared.Fault.{Fault}
 use Rattle.rules.specs.declared.Place.TheVariants.{Row}
 use Rattle.rules.specs.declared.Layout.{Layout}
-use Rattle.rules.specs.Refusals.{table_not_sound, fault, Answer, accepted, refused, require}
+use Rattle.rules.specs.Refusals.{table_not_sound, fault, accepted, refused, require}
 use Rattle.rules.specs.TypeTable.{TypeTable, row_count}
 use Rattle.rules.specs.Sizes.{layout_of}
 use Rattle.rules.specs.Sound.{lists_whole, row_sound, rows_sound, soundness}

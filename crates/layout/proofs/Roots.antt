@@ -1,5 +1,6 @@
 -- Which rows may be a root, by the numbers that the code reads.
 -- Assumes nothing.
+use Rattle.std.specs.Prelude.{if◌then◌else◌}
 use mathlib.Core.Path.{◌≡◌, refl, sym, ap}
 use mathlib.Core.Bool.{Bool, true, false, ◌&&◌, ◌||◌}
 use mathlib.Core.List.{List}
@@ -7,7 +8,6 @@ use Prim.Native.Nat.{ℕ, ◌*◌, ◌/◌, ◌<◌}
 use borrow.Author.Tests.{eqb-true, ltb-true}
 use lib.Dec.{eqb, ltb}
 use lib.ListN.{length, get_or}
-use Rattle.rules.specs.Refusals.{if◌then◌else◌}
 use Rattle.rules.specs.TypeTable.{TypeTable, row_count, kind_at, a_at, b_at, c_at, bool, number, handle, array, vector, string, box, strict_enum, strict_bits, none, type_as, type_of}
 use Rattle.rules.specs.Sound.{root_kind, root_allowed}
 use Rattle.layout.specs.Answers.{RootIs}

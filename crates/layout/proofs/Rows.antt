@@ -1,5 +1,6 @@
 -- Laws of the rules' definitions: recursion over rows, and what the soundness of a type table says of each row.
 -- Assumes nothing.
+use Rattle.std.specs.Prelude.{if◌then◌else◌}
 use mathlib.Core.Bool.{Bool, true, false, ◌&&◌}
 use mathlib.Core.Path.{◌≡◌, refl, ap, sym, ◌∙◌}
 use Prim.Native.Nat.{ℕ, zero, suc, ◌+◌, ◌-◌, ◌%◌, ◌^◌, ◌≤◌, ◌<◌}
@@ -12,7 +13,7 @@ use borrow.Author.Tests.{eqb-true, eqb-false, leb-true, ltb-true, ne_eqb}
 use Rattle.rules.proofs.Tests.{both}
 use Rattle.rules.specs.declared.Fault.{Fault}
 use Rattle.rules.specs.declared.Layout.{Layout}
-use Rattle.rules.specs.Refusals.{Answer, accepted, refused, require, if◌then◌else◌}
+use Rattle.rules.specs.Refusals.{Answer, accepted, refused, require}
 use Rattle.rules.specs.TypeTable.{TypeTable, row_count, member_count, kind_at, a_at, b_at, c_at, row_of, ordinal_at, entry_at, array, struct, strict_enum, strict_bits, none, type_as, type_of, below}
 use Rattle.rules.specs.Sizes.{layout, layout_step, layout_as, layout_below, layout_of, size_of}
 use Rattle.rules.specs.Sound.{lists_whole, struct_members, rising_members, rising_entries, members_exist, entries_exist, width_allowed, row_fits, row_sound, rows_sound, soundness}

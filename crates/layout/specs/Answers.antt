@@ -1,8 +1,8 @@
 -- What the answers of this crate's public functions mean in the rules.
 -- Assumes nothing.
-use Rattle.std.specs.Prelude.{Bool, List, [], ◌∷◌, ◌≡◌, ℕ, zero, suc, ltb}
+use Rattle.std.specs.Prelude.{Bool, List, [], ◌∷◌, ◌≡◌, ℕ, zero, suc, ltb, if◌then◌else◌}
 use Rattle.rules.specs.declared.Layout.{Layout}
-use Rattle.rules.specs.Refusals.{place_number, Answer, accepted, refused, if◌then◌else◌}
+use Rattle.rules.specs.Refusals.{place_number, Answer, accepted, refused}
 use Rattle.rules.specs.TypeTable.{TypeTable, row_count}
 use Rattle.rules.specs.Sizes.{layout_of}
 use Rattle.rules.specs.Sound.{soundness, root_allowed}

@@ -13,7 +13,7 @@ use crate::lists::lists_whole;
 use rules::{Fault, Layout, Place};
 
 // A row on its own: its layout, or not sound.
-#[derive(Drop)]
+#[derive(Clone, Copy)]
 enum Judged {
     Laid(Layout),
     Bad,

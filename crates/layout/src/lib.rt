@@ -1,4 +1,6 @@
 // The type table judged (1), and the sizes and alignments of its rows: document 01, "The type table" and "Sizes".
+#![tactic(auto)]
+
 mod calculator;
 pub mod climb;
 mod kinds;
@@ -16,14 +18,14 @@ use climb::climb;
 use rules::{Fault, Layout, Place};
 
 // The verdict on a type table: sound, or refused with 1.
-#[derive(Drop)]
+#[derive(Clone, Copy)]
 pub enum Soundness {
     Sound,
     Refused(Fault),
 }
 
 // What the layout calculator answers: the row's layout, or a refusal (1, 2).
-#[derive(Drop)]
+#[derive(Clone, Copy)]
 pub enum LayoutAnswer {
     Laid(Layout),
     Refused(Fault),

@@ -1,5 +1,9 @@
 // The listing program: reads a message from standard input and writes its listing.
+#![tactic(auto)]
+
 ghost use Rattle.std.specs.Prelude.{◌≡◌, length};
+
+use std::io;
 
 // One byte more than a message may have: one that is too long is seen to be.
 const MESSAGE_ROOM: usize = 8193;
@@ -7,12 +11,12 @@ const MESSAGE_ROOM: usize = 8193;
 // No listing is longer: listing::listing promises it.
 const TEXT_ROOM: usize = 524288;
 
-fn main() {
+fn main(rt: HostRuntime) -> io::Result<()> {
     let mut message = message_room();
     let mut text = text_room();
-    let count = io::read_full(0, &mut message);
+    let count = console::read_full(&mut rt.stdin(), &mut message)?;
     let length = listing::listing(&message[..count], &mut text);
-    io::write_all(1, &text[..length]);
+    rt.write_all(&text[..length])
 }
 
 // The contracts give the lengths alone, so that no proof goes into a long list.

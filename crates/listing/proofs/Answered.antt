@@ -6,10 +6,10 @@ use Prim.Native.Nat.{ℕ, ◌≤◌, ◌<◌}
 use native.Mathlib.Omega.{arith}
 use borrow.Author.Tests.{le-leb, lt-leb}
 use lib.ListN.{length, take, length-append}
-use lib.Seq.{sets, take-append_seam}
+use lib.Seq.{sets, take-append_seam, length-take-le}
 use Rattle.rules.specs.declared.Fault.{Fault}
 use Rattle.rules.specs.declared.Place.TheVariants.{Byte}
-use Rattle.rules.specs.Refusals.{fault, place_number, Answer, accepted, refused, lent_after, number, place}
+use Rattle.rules.specs.Refusals.{fault, place_number, Answer, accepted, refused, lent_after}
 use Rattle.rules.specs.Answers.{Lists, read, numbers_of, both_counted}
 use Rattle.reader.specs.declared.Lengths.{Lengths}
 use Rattle.reader.specs.declared.Reading.{Reading}
@@ -21,11 +21,14 @@ use Rattle.listing.proofs.Putting.{puts_then}
 use Rattle.listing.proofs.Enough.{enough}
 
 -- What is left in lists that were lent to the reader, with its answer.
-abbrev pub Read : (answer : Answer Lists) (values objects : List ℕ) (reading : Reading) (values' objects' : List ℕ) → Type 0
-Read answer values objects reading values' objects' =
-    (reading_of reading ≡ lengths_of answer)
-    × ((values' ≡ lent_after (values_in answer) values)
-    × ((objects' ≡ lent_after (objects_in answer) objects) × (reading_numbers reading ≡ numbers_of 2 both_counted answer)))
+abbrev pub Read : (given : Answer Lists) (values objects : List ℕ) (reading : Reading) (values' objects' : List ℕ) → Type 0
+Read given values objects reading values' objects' =
+    record {
+      answer : reading_of reading ≡ lengths_of given;
+      values : values' ≡ lent_after (values_in given) values;
+      objects : objects' ≡ lent_after (objects_in given) objects;
+      numbers : reading_numbers reading ≡ numbers_of 2 both_counted given;
+    }
 
 -- The lists of an accepted message stand at the start of those that were lent.
 pub record Listed (answer : Answer Lists) (l : Lengths) (values' objects' : List ℕ) : Type 0 where
@@ -37,30 +40,46 @@ pub listed :
     (answer : Answer Lists) (values objects : List ℕ) {reading : Reading} {values' objects' : List ℕ} {l : Lengths} →
     Read answer values objects reading values' objects' → reading ≡ Accepted l → Listed answer l values' objects'
 listed (accepted lists) values objects {l = l} read is =
-    let says = read.0 in
+    let says = read.answer in
     let lengths : l ≡ record { values = length lists.values; objects = length lists.objects } = cc in
     record {
-      lists = rw (lengths, read.1.0, read.1.1.0, take-append_seam, take-append_seam);
-      values_within = rw (lengths, read.1.0, length-append) (omega arith);
-      objects_within = rw (lengths, read.1.1.0, length-append) (omega arith);
+      lists = rw (lengths, read.values, read.objects, take-append_seam, take-append_seam);
+      values_within = rw (lengths, read.values, length-append) (omega arith);
+      objects_within = rw (lengths, read.objects, length-append) (omega arith);
     }
-listed (refused f) values objects read is = let says = read.0 in let z : ◌≡◌ {A = ℕ} 0 1 = cc in absurd (omega arith)
+listed (refused f) values objects read is = let says = read.answer in let z : ◌≡◌ {A = ℕ} 0 1 = cc in absurd (omega arith)
 
-refused-answer :
+-- The parts of the lists that are listed: as many numbers as are told, and no more than there is room for.
+pub record Parts (l : Lengths) (values' objects' : List ℕ) : Type 0 where
+  pub objects : l.objects ≡ length (take l.objects objects')
+  pub values : l.values ≡ length (take l.values values')
+  pub few_objects : l.objects ≤ 8196
+  pub few_values : l.values ≤ 8196
+
+pub parts : {answer : Answer Lists} {l : Lengths} {values' objects' : List ℕ}
+    → Listed answer l values' objects' → 8196 ≡ length values' → 8196 ≡ length objects' → Parts l values' objects'
+parts {l = l} {values'} {objects'} lists v o = record {
+  objects = sym (length-take-le l.objects objects' lists.objects_within);
+  values = sym (length-take-le l.values values' lists.values_within);
+  few_objects = omega (arith, lists.objects_within);
+  few_values = omega (arith, lists.values_within);
+}
+
+refused_answer :
     (answer : Answer Lists) (values objects : List ℕ) {reading : Reading} {values' objects' : List ℕ} {f : Fault} →
     Read answer values objects reading values' objects' → reading ≡ Refused f → answer ≡ refused f
-refused-answer (accepted lists) values objects read is = let says = read.0 in let z : ◌≡◌ {A = ℕ} 0 1 = cc in absurd (omega arith)
-refused-answer (refused g) values objects read is = let says = read.0 in cc
+refused_answer (accepted lists) values objects read is = let says = read.answer in let z : ◌≡◌ {A = ℕ} 0 1 = cc in absurd (omega arith)
+refused_answer (refused g) values objects read is = let says = read.answer in cc
 
 -- ---- the listing
 
 -- What the listing of a message promises of the output.
 abbrev Whole : (bytes out : List ℕ) (r : ℕ) (after : List ℕ) → Type 0
-Whole bytes out r after = (r ≡ length (listing bytes)) × ((after ≡ sets out 0 (listing bytes)) × (r ≤ largest))
+Whole bytes out r after = record { count : r ≡ length (listing bytes); text : after ≡ sets out 0 (listing bytes); room : r ≤ largest }
 
 whole : (bytes : List ℕ) {out after : List ℕ} {r most : ℕ} {text : List ℕ}
     → listing bytes ≡ text → most ≤ largest → Puts out 0 text most r after → Whole bytes out r after
-whole bytes is short put = (rw is (omega (arith, put.ends)), (rw is put.stored, omega (arith, put.within)))
+whole bytes is short put = record { count = rw is (omega (arith, put.ends)); text = rw is put.stored; room = omega (arith, put.within) }
 
 -- by what the rules answer
 listing_is : (bytes : List ℕ) {answer : Answer Lists} → answered bytes ≡ answer → listing bytes ≡ listing_of (length bytes) answer
@@ -89,7 +108,7 @@ module _
   pub listing_refused : {f : Fault} {out after : List ℕ} {r : ℕ}
       → reading ≡ Refused f → Puts out 0 (head f.number (place_number f.place)) 55 r after → Whole bytes out r after
   listing_refused is put =
-      let e = answered_is bytes values objects short lent ∙ refused-answer _ values objects from is in
+      let e = answered_is bytes values objects short lent ∙ refused_answer _ values objects from is in
       whole bytes (listing_is bytes e ∙ append-nil _) (omega arith) put
 
   pub listing_accepted : {l : Lengths} {out mid after : List ℕ} {next r most : ℕ}

@@ -40,10 +40,10 @@ module _ {lent after : List ℕ} {at most next : ℕ} {first : List ℕ} (put : 
 
 -- ---- numbers
 
-pub digit-put :
+pub digit_put :
     {lent after : List ℕ} {at next : ℕ} (n : ℕ) → n < 10 →
     Puts lent at ((48 + n) ∷ []) 1 next after → Puts lent at (decimal n) 20 next after
-digit-put n small put = rw (decimal_small n small) (puts_short put (omega arith))
+digit_put n small put = rw (decimal_small n small) (puts_short put (omega arith))
 
 pub number_put :
     {lent mid after : List ℕ} {at next last : ℕ} (n : ℕ) → 10 ≤ n → n < 18446744073709551616 →
@@ -61,9 +61,9 @@ pub record Goes (lent : List ℕ) (at : ℕ) (text : List ℕ) (most : ℕ) (aft
   pub room : next + more ≤ largest
   pub long : length after ≡ length lent
 
-pub goes-start :
+pub goes_start :
     {lent : List ℕ} {at : ℕ} {text : List ℕ} {most more : ℕ} → at + most ≤ largest → more ≡ most → Goes lent at text most lent at text more
-goes-start room is = record { whole = λ end last put. rw is at put; room = omega arith; long = refl }
+goes_start room is = record { whole = λ end last put. rw is at put; room = omega arith; long = refl }
 
 module _
     {lent : List ℕ} {at : ℕ} {text : List ℕ} {most : ℕ} {after : List ℕ} {next : ℕ} {left : List ℕ} {more : ℕ}
@@ -87,28 +87,28 @@ pub byte_left : (text : List ℕ) (i : ℕ) → i < length text → drop i text 
 byte_left text i inside = rw (add-one, drop-cons text i 0)
 
 -- of values,
-pub value-left :
+pub value_left :
     (values : List ℕ) (i : ℕ) → i < length values →
     value_lines (drop i values) ≡ line value= (get_or values i 0) ++ value_lines (drop (i + 1) values)
 unfolding value_lines
-value-left values i inside = rw (add-one, drop-cons values i 0)
+value_left values i inside = rw (add-one, drop-cons values i 0)
 
 pub values_end : (values : List ℕ) (i : ℕ) → length values ≤ i → value_lines (drop i values) ≡ []
 unfolding value_lines
 values_end values i past = rw (drop_of_length-le values past)
 
 -- and of objects, four numbers each.
-pub object-left :
+pub object_left :
     (objects : List ℕ) (i : ℕ) → i + 4 ≤ length objects →
     object_lines (drop i objects)
     ≡ object_at objects i ++ object_lines (drop (i + 4) objects)
 unfolding object_lines
-object-left (k ∷ r ∷ o ∷ l ∷ objects) zero inside = refl
-object-left (k ∷ objects) (suc i) inside = rw (suc-add, suc-add, suc-add, suc-add) (object-left objects i (omega arith))
-object-left [] i inside = absurd (omega arith)
-object-left (k ∷ []) zero inside = absurd (omega arith)
-object-left (k ∷ r ∷ []) zero inside = absurd (omega arith)
-object-left (k ∷ r ∷ o ∷ []) zero inside = absurd (omega arith)
+object_left (k ∷ r ∷ o ∷ l ∷ objects) zero inside = refl
+object_left (k ∷ objects) (suc i) inside = rw (suc-add, suc-add, suc-add, suc-add) (object_left objects i (omega arith))
+object_left [] i inside = absurd (omega arith)
+object_left (k ∷ []) zero inside = absurd (omega arith)
+object_left (k ∷ r ∷ []) zero inside = absurd (omega arith)
+object_left (k ∷ r ∷ o ∷ []) zero inside = absurd (omega arith)
 
 pub objects_end : (objects : List ℕ) (i : ℕ) → length objects < i + 4 → object_lines (drop i objects) ≡ []
 unfolding object_lines

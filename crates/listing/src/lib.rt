@@ -1,4 +1,6 @@
 // The listing of a message under the type table of document 01's cases, as lines of text.
+#![tactic(auto)]
+
 mod lines;
 
 ghost use Rattle.std.specs.Prelude.{◌≡◌, ◌+◌, ◌*◌, ◌/◌, ◌≤◌, length};
@@ -48,7 +50,7 @@ fn put_counts(out: &mut [u8], at: usize, bytes: usize, objects: usize, values: u
 // The lines of a message that is accepted, after the first two.
 fn put_lists(out: &mut [u8], at: usize, bytes: usize, objects: &[u32], values: &[u64]) -> usize
     requires { at + (113 + (23 * length objects.now + 27 * length values.now)) ≤ largest }
-    ensures { Puts out.old at (body bytes (record { values = values.entry.now; objects = objects.now })) (113 + (23 * length objects.now + 27 * length values.entry.now)) result out.new }
+    ensures { Puts out.old at (body bytes (record { values = values.now; objects = objects.now })) (113 + (23 * length objects.now + 27 * length values.now)) result out.new }
 {
     let after_counts = put_counts(out, at, bytes, objects.len() / 4, values.len());
     let after_objects = put_objects(out, after_counts, objects);

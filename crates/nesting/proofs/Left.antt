@@ -1,12 +1,12 @@
 -- What is left of a struct or an array, of which so many members or elements are done, as fields.
 -- Assumes nothing.
+use Rattle.std.specs.Prelude.{if◌then◌else◌}
 use mathlib.Core.List.{List, [], ◌∷◌}
 use mathlib.Core.Path.{◌≡◌, ◌∙◌}
 use Prim.Native.Nat.{ℕ, suc, ◌+◌, ◌-◌, ◌≤◌, ◌<◌}
 use native.Mathlib.Omega.{arith}
 use borrow.Author.Tests.{eq-eqb, ne_eqb}
 use lib.Dec.{eqb}
-use Rattle.rules.specs.Refusals.{if◌then◌else◌}
 use Rattle.rules.specs.Bytes.{round_up}
 use Rattle.rules.specs.TypeTable.{TypeTable, kind_at, a_at, b_at, row_of, member_rows}
 use Rattle.rules.specs.Sizes.{Field, field, layout_of, size_of, next_alignment, fields_from}

@@ -3,11 +3,11 @@
 use mathlib.Core.Bool.{Bool, true, false, not, ◌&&◌, ◌||◌}
 use mathlib.Core.List.{List}
 use mathlib.Core.Path.{◌≡◌}
-use Prim.Native.Nat.{ℕ, zero, suc, ◌+◌, ◌-◌, ◌*◌, ◌≤◌, ◌<◌}
+use Prim.Native.Nat.{ℕ, zero, suc, ◌+◌, ◌-◌, ◌≤◌, ◌<◌}
 use native.Mathlib.Omega.{arith}
 use mir.Syntax.{w32}
 use mir.Val.{Fits}
-use borrow.Author.Tests.{lt-ltb, le-ltb, ltb-true, leb-true, eq-eqb, ne_eqb, not-false}
+use borrow.Author.Tests.{lt-ltb, le-ltb, ltb-true, leb-true, eq-eqb, ne_eqb}
 use lib.Dec.{ltb, leb, eqb}
 use lib.ListN.{get_or}
 use Rattle.rules.specs.Bytes.{round_up}
@@ -57,9 +57,9 @@ module _ (rows members : List ℕ) (level : Level) where
   place_member alignments stop k n a b o = rw (o, a, b, ← k, ne_eqb _ 4 n)
 
   -- What a level that is gone on with is known to be.
-  pub level_known : (place : ℕ) → not (possible rows members level place) ≡ false → (level.row < 256) × (level.done < 65536) × (level.at ≤ place) × (place ≤ 65536)
+  pub level_known : (place : ℕ) → possible rows members level place ≡ true → (level.row < 256) × (level.done < 65536) × (level.at ≤ place) × (place ≤ 65536)
   level_known place e =
-      let all = both ((ltb level.row 256 && ltb level.done 65536) && leb level.at place) (leb place 65536) (not-false (possible rows members level place) e) in
+      let all = both ((ltb level.row 256 && ltb level.done 65536) && leb level.at place) (leb place 65536) e in
       let three = both (ltb level.row 256 && ltb level.done 65536) (leb level.at place) all.0 in
       let two = both (ltb level.row 256) (ltb level.done 65536) three.0 in
       (ltb-true _ _ two.0, ltb-true _ _ two.1, leb-true _ _ three.1, leb-true _ _ all.1)

@@ -1,7 +1,6 @@
 -- Structs and arrays within one another: what comes next in one of them, and where.
 -- Assumes nothing.
-use Rattle.std.specs.Prelude.{Bool, not, ◌&&◌, ◌||◌, List, ℕ, ◌+◌, ◌-◌, ◌*◌, ltb, leb, eqb, get_or}
-use Rattle.rules.specs.Refusals.{if◌then◌else◌}
+use Rattle.std.specs.Prelude.{Bool, not, ◌&&◌, ◌||◌, List, ℕ, ◌+◌, ◌-◌, ltb, leb, eqb, get_or, if◌then◌else◌}
 use Rattle.rules.specs.Bytes.{round_up}
 use Rattle.rules.specs.TypeTable.{kind_in, a_in, b_in, row_in}
 use Rattle.nesting.specs.declared.Level.{Level}

@@ -1,4 +1,6 @@
 // Structs and arrays nested in line, one member or element at a time: what comes next in one of them, and where.
+#![tactic(auto)]
+
 ghost use Rattle.std.specs.Prelude.{◌≡◌, ◌≤◌, ◌<◌};
 ghost use Rattle.nesting.specs.Nesting.{next_offset, has_parts, next_part, next_place, next_step};
 
@@ -7,7 +9,7 @@ ghost use Rattle.nesting.specs.Nesting.{next_offset, has_parts, next_part, next_
 pub const NESTED: usize = 8;
 
 // A struct or an array on the way: where it stands, and how many of its members or elements are done.
-#[derive(Drop)]
+#[derive(Clone, Copy)]
 pub struct Level {
     pub row: usize,
     pub done: usize,
@@ -16,7 +18,7 @@ pub struct Level {
 
 // What comes next: fill up to a place; a member or element that has parts itself and is gone into, or one that is left to
 // a call; the one around it goes on; or all is done.
-#[derive(Drop)]
+#[derive(Clone, Copy)]
 pub enum Step {
     Fill(usize),
     Into(usize),

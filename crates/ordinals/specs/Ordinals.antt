@@ -1,7 +1,6 @@
 -- What an ordinal stands for, searched by halves among members whose ordinals rise.
 -- Assumes nothing.
-use Rattle.std.specs.Prelude.{◌||◌, List, ◌≡◌, ℕ, zero, suc, ◌+◌, ◌*◌, ◌/◌, ◌<◌, ltb, eqb}
-use Rattle.rules.specs.Refusals.{if◌then◌else◌}
+use Rattle.std.specs.Prelude.{◌||◌, List, ◌≡◌, ℕ, zero, suc, ◌+◌, ◌/◌, ◌<◌, ltb, eqb, if◌then◌else◌}
 use Rattle.rules.specs.TypeTable.{TypeTable, ordinal_in, row_in, row_count, Content, known, unknown, content_of}
 use Rattle.ordinals.specs.declared.Ordinal.{Ordinal}
 use Rattle.ordinals.specs.declared.Ordinal.TheVariants.{Known, Unknown}

@@ -1,9 +1,11 @@
 // What an ordinal stands for in a table or a union.
+#![tactic(auto)]
+
 ghost use Rattle.std.specs.Prelude.{◌≡◌};
 ghost use Rattle.ordinals.specs.Ordinals.{ordinal_is, halved};
 
 // What an ordinal stands for: the row of a table's or union's member, or content that the type does not know.
-#[derive(Drop)]
+#[derive(Clone, Copy)]
 pub enum Ordinal {
     Known(usize),
     Unknown,

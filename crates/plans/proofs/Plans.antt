@@ -1,5 +1,6 @@
 -- The plan of a row in use of a sound type table: its parts stand for the row's fields, one for one.
 -- Assumes nothing.
+use Rattle.std.specs.Prelude.{if◌then◌else◌}
 use mathlib.Core.Bool.{Bool, true, false, ◌&&◌}
 use mathlib.Core.List.{List, [], ◌∷◌, ◌++◌, map}
 use mathlib.Core.Path.{◌≡◌, refl, sym, ap, ◌∙◌}
@@ -10,7 +11,7 @@ use borrow.Author.Tests.{lt-ltb, leb-true, eq-eqb, ne_eqb, eqb-true}
 use lib.Dec.{leb, eqb}
 use lib.ListN.{length, drop, get_or}
 use lib.Seq.{drop-drop, get_or-drop}
-use Rattle.rules.specs.Refusals.{accepted, if◌then◌else◌}
+use Rattle.rules.specs.Refusals.{accepted}
 use Rattle.rules.specs.Bytes.{zeros}
 use Rattle.rules.specs.TypeTable.{TypeTable, row_count, kind_at, a_at, b_at, member_rows}
 use Rattle.rules.specs.Sizes.{Field, field, layout_of, size_of, fields_of, fields_size}

@@ -1,8 +1,7 @@
 -- Flat values: a bool, or a struct of bools and numbers alone. A plan has their parts as fields whose row is a width, 0 for a bool.
 -- Assumes nothing.
-use Rattle.std.specs.Prelude.{Bool, true, ◌&&◌, List, [], ◌∷◌, ◌++◌, map, ◌≡◌, ℕ, zero, suc, ◌+◌, ◌-◌, ◌*◌, leb, eqb, length, get_or}
+use Rattle.std.specs.Prelude.{Bool, true, ◌&&◌, List, [], ◌∷◌, ◌++◌, map, ◌≡◌, ℕ, zero, suc, ◌+◌, ◌-◌, ◌*◌, leb, eqb, length, get_or, if◌then◌else◌}
 use Rattle.rules.specs.declared.Layout.{Layout}
-use Rattle.rules.specs.Refusals.{if◌then◌else◌}
 use Rattle.rules.specs.Bytes.{zeros}
 use Rattle.rules.specs.Sizes.{Field, field, fields_size}
 use Rattle.nesting.specs.declared.Level.{Level}

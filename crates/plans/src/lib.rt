@@ -1,4 +1,6 @@
 // Flat values, which are bools and numbers alone: the plan that one or many of them are read and written by.
+#![tactic(auto)]
+
 ghost use Rattle.std.specs.Prelude.{[], ◌≡◌, ◌+◌, ◌-◌, ◌≤◌, ◌<◌};
 ghost use Rattle.plans.specs.Plans.{flat_width, width_size, flat_members, plan_of, plan_as};
 
@@ -6,7 +8,7 @@ use nesting::{Level, next_part, next_place};
 
 // The parts of a value of bools and numbers alone, made once for many of them: the width of each part, 0 for a bool, and
 // the fill after it. No parts where there is no plan.
-#[derive(Drop)]
+#[derive(Clone, Copy)]
 pub struct Plan {
     pub count: usize,
     pub widths: [u32; 16],

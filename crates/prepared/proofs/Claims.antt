@@ -1,13 +1,13 @@
 -- W-207's claims: what an operation gives agrees with its lists, and a check with such a state answers as without one.
 -- Assumes nothing.
 use mathlib.Core.Bool.{Bool, true, false}
-use mathlib.Core.Path.{◌≡◌, refl, ap, sym, ◌∙◌}
+use mathlib.Core.Path.{◌≡◌, refl}
 use Prim.Native.Nat.{ℕ}
 use native.Mathlib.Omega.{arith}
 use Rattle.rules.specs.declared.Fault.{Fault}
 use Rattle.rules.specs.declared.Place.TheVariants.{Row, Amount}
 use Rattle.rules.specs.Refusals.{table_not_sound, state_disagrees, fault, Answer, accepted, refused, require, and_then}
-use Rattle.rules.specs.TypeTable.{TypeTable, row_count}
+use Rattle.rules.specs.TypeTable.{TypeTable}
 use Rattle.rules.specs.Sound.{soundness}
 use Rattle.rules.specs.Decode.{Message}
 use Rattle.rules.specs.Answers.{judged, check}

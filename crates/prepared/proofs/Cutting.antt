@@ -1,9 +1,10 @@
 -- Lists that go on past others: what the shorter lists say of their sound rows, the longer ones say too.
 -- Assumes nothing.
+use Rattle.std.specs.Prelude.{if◌then◌else◌}
 use mathlib.Core.Bool.{Bool, true, false, ◌&&◌}
-use mathlib.Core.List.{List, ◌∷◌}
+use mathlib.Core.List.{List}
 use mathlib.Core.Path.{◌≡◌, refl, ap, sym, ◌∙◌, fun_ext}
-use Prim.Native.Nat.{ℕ, zero, suc, ◌+◌, ◌*◌, ◌^◌, ◌≤◌, ◌<◌, min}
+use Prim.Native.Nat.{ℕ, zero, suc, ◌+◌, ◌*◌, ◌≤◌, ◌<◌, min}
 use native.Mathlib.Nat.{min-le_left, min-le_right, min-eq_left, min-eq_right, le_of_lt}
 use native.Mathlib.Omega.{arith}
 use lib.Dec.{eqb, leb, ltb}
@@ -11,10 +12,9 @@ use lib.ListN.{length, take, get_or, length-take}
 use lib.Seq.{get_or-take, take_all, take-length}
 use borrow.Author.Tests.{leb-true, leb-false, ltb-true, le-leb, lt-ltb}
 use Rattle.rules.specs.declared.Layout.{Layout}
-use Rattle.rules.specs.Refusals.{if◌then◌else◌}
-use Rattle.rules.specs.TypeTable.{TypeTable, row_count, member_count, kind_at, a_at, b_at, c_at, ordinal_at, row_of, entry_at, FidlType, bool, number, handle, array, vector, string, struct, box, table, union, strict_enum, strict_bits, none, type_as, type_of, member_rows, below, envelope_size}
-use Rattle.rules.specs.Sizes.{layout, layout_as, layout_step, layout_below, layout_of, size_of, struct_size, fields_of, largest_alignment}
-use Rattle.rules.specs.Sound.{lists_whole, struct_members, rising_members, rising_entries, members_exist, entries_exist, width_allowed, row_fits, row_sound}
+use Rattle.rules.specs.TypeTable.{TypeTable, row_count, member_count, kind_at, a_at, b_at, c_at, ordinal_at, row_of, entry_at, FidlType, bool, number, handle, array, vector, string, struct, box, table, union, strict_enum, strict_bits, none, type_of, member_rows, below, envelope_size}
+use Rattle.rules.specs.Sizes.{layout, layout_as, layout_step, layout_below, layout_of, size_of}
+use Rattle.rules.specs.Sound.{struct_members, rising_members, rising_entries, members_exist, entries_exist, width_allowed, row_fits, row_sound}
 use Rattle.rules.proofs.Tests.{both}
 use Rattle.layout.specs.Kept.{SoundBelow, KeptBelow}
 use Rattle.layout.proofs.Rows.{sound_fits, struct_fits}

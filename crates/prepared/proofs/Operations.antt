@@ -20,6 +20,7 @@ use Rattle.layout.specs.declared.Soundness.{Soundness}
 use Rattle.layout.specs.declared.Soundness.TheVariants.{Sound, Refused}
 use Rattle.layout.specs.Answers.{verdict_of, verdict_numbers, kept_sizes, kept_alignments}
 use Rattle.layout.specs.Kept.{Climbed}
+use Rattle.layout.proofs.Keeping.{verdict_sound, verdict_refused}
 use Rattle.layout.proofs.Climbing.{climbed_kept}
 use Rattle.prepared.specs.declared.State.{State}
 use Rattle.prepared.specs.declared.Prepared.{Prepared}
@@ -36,16 +37,17 @@ told_case (accepted s) before = refl
 told_case (refused f) before = refl
 
 pub told : (a : Answer State) (before : State) {r : Prepared} → r ≡ answered a before
-    → (r ≡ answered a before) × (verdict_numbers r.verdict ≡ numbers_of 0 no_numbers a)
-told a before e = (e, ap (λ p. verdict_numbers p.verdict) e ∙ told_case a before)
+    → record { answer : r ≡ answered a before; numbers : verdict_numbers r.verdict ≡ numbers_of 0 no_numbers a }
+told a before e = record { answer = e; numbers = ap (λ p. verdict_numbers p.verdict) e ∙ told_case a before }
 
 verdict_case : (r : Soundness) → verdict_numbers r ≡ numbers_of 0 nothing (verdict_of r)
 unfolding zeros
 verdict_case Sound = refl
 verdict_case (Refused f) = refl
 
-pub judged : (r : Soundness) {a : Answer (Unit {0})} → verdict_of r ≡ a → (verdict_of r ≡ a) × (verdict_numbers r ≡ numbers_of 0 nothing a)
-judged r e = (e, verdict_case r ∙ ap (numbers_of 0 nothing) e)
+pub judged : (r : Soundness) {a : Answer (Unit {0})} → verdict_of r ≡ a
+    → record { answer : verdict_of r ≡ a; numbers : verdict_numbers r ≡ numbers_of 0 nothing a }
+judged r e = record { answer = e; numbers = verdict_case r ∙ ap (numbers_of 0 nothing) e }
 
 said_case : (a : Answer (Unit {0})) (same : Bool) (f : Fault) → and_then a (λ sound. require same f (accepted (tt {0}))) ≡ accepted tt
     → (a ≡ accepted tt) × (same ≡ true)
@@ -75,8 +77,14 @@ module _ (t : TypeTable) (before : State) where
   pub prepared_state : (r : Prepared) → r ≡ answered (prepared_of t) before → soundness t ≡ accepted tt → r.state ≡ state_of t
   prepared_state r e sound = ap (λ z. z.state) e ∙ rw sound
 
-  pub prepared_verdict : (r : Prepared) → r ≡ answered (prepared_of t) before → verdict_of r.verdict ≡ soundness t
+  prepared_verdict : (r : Prepared) → r ≡ answered (prepared_of t) before → verdict_of r.verdict ≡ soundness t
   prepared_verdict r e = ap (λ z. verdict_of z.verdict) e ∙ answer_verdict (soundness t)
+
+  pub prepared_sound : (r : Prepared) → r ≡ answered (prepared_of t) before → r.verdict ≡ Sound → soundness t ≡ accepted tt
+  prepared_sound r e q = verdict_sound t r.verdict (prepared_verdict r e) q
+
+  pub prepared_refused : (r : Prepared) (f : Fault) → r ≡ answered (prepared_of t) before → r.verdict ≡ Refused f → soundness t ≡ refused f
+  prepared_refused r f e q = verdict_refused t r.verdict f (prepared_verdict r e) q
 
 -- The lists are cut where they hold the counts, or at their end.
 pub cut_prepared : (s : State) (rows members entries : List ℕ) {r m e : ℕ}

@@ -1,5 +1,6 @@
 -- States and lists: when they agree, and what a climb goes on from.
 -- Assumes nothing.
+use Rattle.std.specs.Prelude.{if◌then◌else◌}
 use mathlib.Core.Bool.{Bool, true, false, ◌&&◌}
 use mathlib.Core.List.{List, [], ◌∷◌}
 use mathlib.Core.Path.{◌≡◌, refl, ap, sym, ◌∙◌}
@@ -9,7 +10,7 @@ use lib.Dec.{eqb}
 use lib.ListN.{length}
 use borrow.Author.Tests.{eqb-true, eq-eqb}
 use Rattle.rules.proofs.Tests.{both}
-use Rattle.rules.specs.Refusals.{Answer, accepted, refused, and_then, if◌then◌else◌}
+use Rattle.rules.specs.Refusals.{Answer, accepted, refused, and_then}
 use Rattle.rules.specs.TypeTable.{TypeTable, row_count}
 use Rattle.rules.specs.Sound.{soundness}
 use Rattle.layout.specs.Answers.{kept_sizes, kept_alignments}

@@ -1,8 +1,8 @@
 -- A prepared state beside the lists of a type table, and when the two agree: W-207.
 -- Assumes nothing.
-use Rattle.std.specs.Prelude.{Bool, true, false, ◌&&◌, List, [], ◌∷◌, ◌≡◌, ℕ, eqb, length, replicate}
+use Rattle.std.specs.Prelude.{Bool, true, false, ◌&&◌, List, [], ◌∷◌, ◌≡◌, ℕ, eqb, length, replicate, if◌then◌else◌}
 use Rattle.rules.specs.declared.Place.TheVariants.{Amount}
-use Rattle.rules.specs.Refusals.{state_disagrees, fault, Answer, accepted, refused, require, and_then, if◌then◌else◌}
+use Rattle.rules.specs.Refusals.{state_disagrees, fault, Answer, accepted, refused, require, and_then}
 use Rattle.rules.specs.TypeTable.{TypeTable, row_count, member_count}
 use Rattle.rules.specs.Sound.{soundness}
 use Rattle.rules.specs.Decode.{Message}

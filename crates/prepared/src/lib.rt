@@ -1,5 +1,7 @@
 // A prepared state beside the lists of a type table (W-207): the sizes and alignments of the rows in use, kept from one
 // operation to the next.
+#![tactic(auto)]
+
 mod compare;
 
 ghost use Rattle.std.specs.Prelude.{◌≡◌, ◌*◌, ◌≤◌, min};
@@ -17,7 +19,7 @@ use rules::{Fault, Place};
 
 // "Two stores of 256 numbers", the size and the alignment of each row in use and zero for the others; and how many rows,
 // members and entries are in use.
-#[derive(Drop)]
+#[derive(Clone, Copy)]
 pub struct State {
     pub sizes: [u32; 256],
     pub alignments: [u32; 256],
@@ -27,7 +29,7 @@ pub struct State {
 }
 
 // What an operation answers: the verdict (1, 34), and the state afterwards, on a refusal as it was.
-#[derive(Drop)]
+#[derive(Clone, Copy)]
 pub struct Prepared {
     pub verdict: Soundness,
     pub state: State,

@@ -1,5 +1,6 @@
 -- A header that is accepted has all its bytes; a status has 32 bits, and its pattern of 64.
 -- Assumes nothing.
+use Rattle.std.specs.Prelude.{if◌then◌else◌}
 use mathlib.Core.Bool.{Bool, true, false}
 use mathlib.Core.List.{List}
 use mathlib.Core.Path.{◌≡◌, refl, ap, ◌∙◌}
@@ -13,7 +14,7 @@ use mir.Syntax.{w32}
 use mir.Val.{SFits, to_z, of_z}
 use mir.ValLaws.{to_z-of_z}
 use Rattle.rules.specs.declared.Fault.{Fault}
-use Rattle.rules.specs.Refusals.{if◌then◌else◌, Answer, accepted, refused, require}
+use Rattle.rules.specs.Refusals.{Answer, accepted, refused, require}
 use Rattle.rules.specs.Bytes.{word, ones32, pattern32, signed32}
 use Rattle.rules.specs.Header.{Header, is_epitaph, read_header, status_after, status}
 use Rattle.ratlinery.specs.Face.{pattern64}

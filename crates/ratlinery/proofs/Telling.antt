@@ -17,15 +17,15 @@ use Rattle.writer.specs.Answers.{sizes_of}
 use Rattle.ratlinery.specs.Face.{told, one}
 
 -- An answer that an operation of this repository gave, as `told` tells it; `n` is the number that is returned.
-abbrev Tells : {A : Type 0} (count : ℕ) (results : A → List ℕ) (answer : Answer A) (before after : List ℕ) (n : ℕ) → Type 0
-Tells count results answer before after n = (n ≡ number answer) × (after ≡ sets before 0 (told count results answer))
+abbrev Tells : {A : Type 0} (count : ℕ) (results : A → List ℕ) (given : Answer A) (before after : List ℕ) (n : ℕ) → Type 0
+Tells count results given before after n = record { number : n ≡ number given; answer : after ≡ sets before 0 (told count results given) }
 
 module _ {A : Type 0} (count : ℕ) (results : A → List ℕ) {answer : Answer A} (before : List ℕ) {after : List ℕ} where
   pub tells_result : {a : A} → accepted a ≡ answer → after ≡ sets before 0 (0 ∷ results a) → Tells count results answer before after 0
-  tells_result e s = rw (← e) (refl, s)
+  tells_result e s = rw (← e) (record { number = refl; answer = s })
 
   pub tells_refusal : {f : Fault} {n : ℕ} → refused f ≡ answer → n ≡ f.number → after ≡ sets before 0 (place_number f.place ∷ zeros count) → Tells count results answer before after n
-  tells_refusal e m s = rw (← e) (m, s)
+  tells_refusal e m s = rw (← e) (record { number = m; answer = s })
 
 -- The answer of which something else is answered tells as much.
 pub tells_of : {A B : Type 0} (count : ℕ) (results : B → List ℕ) (f : A → B) (answer : Answer A) (before : List ℕ) {after : List ℕ} {n : ℕ}

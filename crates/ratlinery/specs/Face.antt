@@ -1,6 +1,6 @@
 -- What the functions for C and Rust store into `answer`.
 -- Assumes nothing.
-use Rattle.std.specs.Prelude.{List, [], ◌∷◌, ℕ, ◌+◌, ◌-◌, ◌*◌, ℤ, pos, negsuc, get_or}
+use Rattle.std.specs.Prelude.{List, [], ◌∷◌, ℕ, ◌+◌, ◌-◌, ◌*◌, ℤ, pos, negsuc}
 use Rattle.rules.specs.Refusals.{Answer}
 use Rattle.rules.specs.Bytes.{ones64}
 use Rattle.rules.specs.Answers.{numbers_of}

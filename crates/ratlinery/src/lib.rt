@@ -1,5 +1,7 @@
 // Ratlinery for C, C++ and Rust: include/ratlinery.h says what each function does. Each returns the number of the refusal, 0
 // when accepted, and stores the place and its results into `answer`, as far as that has room.
+#![tactic(auto)]
+
 ghost use Rattle.std.specs.Prelude.{◌≡◌, [], ◌∷◌, ◌≤◌, length};
 ghost use Rattle.std.proofs.lemmas.List.Edits.{sets};
 ghost use Rattle.rules.specs.Refusals.{number, place_number, lent_after};

@@ -32,10 +32,10 @@ use Rattle.reader.proofs.Judging.{Held, as_refused, as_held, held_lists}
 
 -- One list: what is answered of it, and what it holds after.
 abbrev pub Gives : (given : Answer (List ℕ)) (lent : List ℕ) → Given → (after : List ℕ) → Type 0
-Gives given lent r after = (given_of r ≡ length_of given) × ((after ≡ lent_after given lent) × (given_numbers r ≡ numbers_of 1 counted given))
+Gives given lent r after = record { answer : given_of r ≡ length_of given; list : after ≡ lent_after given lent; numbers : given_numbers r ≡ numbers_of 1 counted given }
 
 gives : (given : Answer (List ℕ)) (lent : List ℕ) (r : Given) {after : List ℕ} → given_of r ≡ length_of given → after ≡ lent_after given lent → Gives given lent r after
-gives given lent r e left = (e, (left, given_numbers_lem r given e))
+gives given lent r e left = record { answer = e; list = left; numbers = given_numbers_lem r given e }
 
 gives_nothing : {given : Answer (List ℕ)} {f g : Fault} (lent : List ℕ) → given ≡ refused f → g ≡ f → Gives given lent (One.Refused g) lent
 gives_nothing {given} {g = g} lent e q = gives given lent (One.Refused g) (rw (e, q)) (rw e)
@@ -47,12 +47,16 @@ gives_list {given} {list} lent {count = count} e n room s = gives given lent (On
 -- Both lists.
 abbrev pub GivesBoth : (given : Answer Lists) (values objects : List ℕ) → Reading → (values' objects' : List ℕ) → Type 0
 GivesBoth given values objects r values' objects' =
-    (reading_of r ≡ lengths_of given)
-    × ((values' ≡ lent_after (values_in given) values) × ((objects' ≡ lent_after (objects_in given) objects) × (reading_numbers r ≡ numbers_of 2 both_counted given)))
+    record {
+      answer : reading_of r ≡ lengths_of given;
+      values : values' ≡ lent_after (values_in given) values;
+      objects : objects' ≡ lent_after (objects_in given) objects;
+      numbers : reading_numbers r ≡ numbers_of 2 both_counted given;
+    }
 
 gives_both : (given : Answer Lists) (values objects : List ℕ) (r : Reading) {values' objects' : List ℕ} → reading_of r ≡ lengths_of given
     → values' ≡ lent_after (values_in given) values → objects' ≡ lent_after (objects_in given) objects → GivesBoth given values objects r values' objects'
-gives_both given values objects r e left left-objects = (e, (left, (left-objects, reading_numbers_lem r given e)))
+gives_both given values objects r e left left-objects = record { answer = e; values = left; objects = left-objects; numbers = reading_numbers_lem r given e }
 
 gives_neither : {given : Answer Lists} {f g : Fault} (values objects : List ℕ) → given ≡ refused f → g ≡ f
     → GivesBoth given values objects (Refused g) values objects
@@ -134,16 +138,16 @@ module _ (t : TypeTable) (bytes : List ℕ) (root handles : ℕ) where
 
   -- What the checker promises.
   abbrev pub Checks : Verdict → Type 0
-  Checks r = (verdict_of r ≡ A.check here root) × (verdict_numbers r ≡ numbers_of 0 nothing (A.check here root))
+  Checks r = record { answer : verdict_of r ≡ A.check here root; numbers : verdict_numbers r ≡ numbers_of 0 nothing (A.check here root) }
 
   module _ {a : Reading} (j : reading_of a ≡ judged_lengths here root) where
     pub check_refused : {f : Fault} → a ≡ Refused f → Checks (Checked.Refused f)
     unfolding A.check
-    check_refused {f} e = let c : refused f ≡ A.check here root = rw (as_refused here root a j e) in (c, verdict_numbers_lem (Checked.Refused f) c)
+    check_refused {f} e = let c : refused f ≡ A.check here root = rw (as_refused here root a j e) in record { answer = c; numbers = verdict_numbers_lem (Checked.Refused f) c }
 
     pub check_accepted : {lengths : Lengths} → a ≡ Accepted lengths → Checks Checked.Accepted
     unfolding A.check
-    check_accepted e = let c : accepted tt ≡ A.check here root = rw (as_held here root a j e).held in (c, verdict_numbers_lem Checked.Accepted c)
+    check_accepted e = let c : accepted tt ≡ A.check here root = rw (as_held here root a j e).held in record { answer = c; numbers = verdict_numbers_lem Checked.Accepted c }
 
     pub values_refused : {f : Fault} (lent : List ℕ) → a ≡ Refused f → Gives (A.read_values here root (length lent)) lent (One.Refused f) lent
     values_refused lent e = gives_nothing lent (no_values (as_refused here root a j e) (length lent)) refl

@@ -6,13 +6,11 @@ use Prim.Native.Nat.{ℕ}
 use native.Mathlib.Omega.{arith}
 use lib.ListN.{length}
 use Rattle.rules.specs.declared.Fault.{Fault}
-use Rattle.rules.specs.Refusals.{Answer, accepted, refused, and_then}
+use Rattle.rules.specs.Refusals.{Answer, accepted, refused}
 use Rattle.rules.specs.TypeTable.{TypeTable, type_table}
 use Rattle.rules.specs.Sound.{soundness}
 use Rattle.rules.specs.Decode.{Message}
-use Rattle.rules.specs.Answers as A
 use Rattle.rules.specs.Answers.{numbers_of, nothing}
-use Rattle.layout.specs.Answers.{kept_sizes, kept_alignments}
 use Rattle.prepared.specs.declared.State.{State}
 use Rattle.prepared.specs.States.{agreement, check_prepared}
 use Rattle.prepared.proofs.Operations.{agreement_said}
@@ -30,7 +28,7 @@ use Rattle.reader.proofs.Lent.{Checks, check_refused, check_accepted}
 
 -- What is promised of the answer.
 abbrev ChecksPrepared : State → Message → (root : ℕ) → Verdict → Type 0
-ChecksPrepared s m root r = (verdict_of r ≡ check_prepared s m root) × (verdict_numbers r ≡ numbers_of 0 nothing (check_prepared s m root))
+ChecksPrepared s m root r = record { answer : verdict_of r ≡ check_prepared s m root; numbers : verdict_numbers r ≡ numbers_of 0 nothing (check_prepared s m root) }
 
 module _ (s : State) (rows members entries bytes : List ℕ) (root handles : ℕ) where
   abbrev t : TypeTable
@@ -58,7 +56,7 @@ module _ (s : State) (rows members entries bytes : List ℕ) (root handles : ℕ
       refused_case (refused g) e {f} q =
           let same : verdict_of r ≡ refused g = tested t refl ∙ rw (v, e) in
           let answer : verdict_of (Checked.Refused f) ≡ check_prepared s here root = sym (ap verdict_of q) ∙ same ∙ rw e in
-          (answer, verdict_numbers_lem (Checked.Refused f) answer)
+          record { answer = answer; numbers = verdict_numbers_lem (Checked.Refused f) answer }
 
       pub state_refused : {f : Fault} → r ≡ Checked.Refused f → ChecksPrepared s here root (Checked.Refused f)
       state_refused q = refused_case (agreement s t) refl q

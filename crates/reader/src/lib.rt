@@ -1,4 +1,6 @@
 // Checker, reader and object list: document 01, "The walk" and "Numbers and places". They share one walk.
+#![tactic(auto)]
+
 mod pass;
 mod with_state;
 
@@ -16,28 +18,28 @@ use rules::{Fault, Place};
 pub use with_state::check_prepared;
 
 // What the checker answers.
-#[derive(Drop)]
+#[derive(Clone, Copy)]
 pub enum Verdict {
     Accepted,
     Refused(Fault),
 }
 
 // What a reader of one list answers: how many numbers it gave, or a refusal.
-#[derive(Drop)]
+#[derive(Clone, Copy)]
 pub enum Given {
     Accepted(usize),
     Refused(Fault),
 }
 
 // How many numbers the value list and the object list of a message have.
-#[derive(Drop)]
+#[derive(Clone, Copy)]
 pub struct Lengths {
     pub values: usize,
     pub objects: usize,
 }
 
 // What the reader of both lists answers.
-#[derive(Drop)]
+#[derive(Clone, Copy)]
 pub enum Reading {
     Accepted(Lengths),
     Refused(Fault),

@@ -1,7 +1,10 @@
 // Sends each message of the number stream on standard input there and back: it is checked and read, and what was read is
 // written and compared. A refused one is reported, with its line, its number and its place; at the end stand the counts. A
 // line is a message: row list, member list, entries, root, bytes and handle count. vectors/make.py makes the stream from the vector files.
+#![tactic(auto)]
+
 use demands::Trip;
+use std::io;
 
 // Room for the lists of a type table, and for a message and its values.
 const LIST_ROOM: usize = 4096;
@@ -11,17 +14,16 @@ const MESSAGE_ROOM: usize = 4096;
 // What comes of a message: the same, another, or a refusal.
 const OUTCOMES: usize = 3;
 
-fn main() {
+fn main(rt: HostRuntime) -> io::Result<()> {
     let mut text = stream::text_room();
-    let count = io::read_full(0, &mut text);
+    let count = console::read_full(&mut rt.stdin(), &mut text)?;
     if count == stream::TEXT_ROOM {
-        io::write_all(1, b"the stream is too long\n");
-        return;
+        return println!(rt; "the stream is too long");
     }
-    run(&text[..count]);
+    run(&rt, &text[..count])
 }
 
-fn run(text: &[u8]) {
+fn run(rt: &impl Print, text: &[u8]) -> io::Result<()> {
     let mut numbers = stream::line_room();
     let mut counts = [0u64; OUTCOMES];
     let mut line: usize = 0;
@@ -30,10 +32,11 @@ fn run(text: &[u8]) {
         let read = stream::read_line(text, at, &mut numbers);
         at = read.next;
         line += 1;
-        let outcome = told(line, there_and_back(stream::first(&numbers, read.count)));
+        let trip = there_and_back(stream::first(&numbers, read.count));
+        let outcome = told(rt, line, trip)?;
         count_one(&mut counts, outcome);
     }
-    report(&counts);
+    report(rt, &counts)
 }
 
 fn count_one(counts: &mut [u64; OUTCOMES], outcome: usize) {
@@ -44,32 +47,25 @@ fn count_one(counts: &mut [u64; OUTCOMES], outcome: usize) {
     }
 }
 
-fn report(counts: &[u64; OUTCOMES]) {
-    write_count(b"same: ", counts[0]);
-    write_count(b"different: ", counts[1]);
-    write_count(b"refused: ", counts[2]);
+fn report(rt: &impl Print, counts: &[u64; OUTCOMES]) -> io::Result<()> {
+    write_count(rt, "same", counts[0])?;
+    write_count(rt, "different", counts[1])?;
+    write_count(rt, "refused", counts[2])
 }
 
-fn write_count(name: &[u8], count: u64) {
-    io::write_all(1, name);
-    io::print_decimal(1, count);
-    io::write_all(1, b"\n");
+fn write_count(rt: &impl Print, name: &str, count: u64) -> io::Result<()> {
+    println!(rt; "{name}: {count}")
 }
 
 // Which outcome it is; a refusal is reported.
-fn told(line: usize, trip: Trip) -> usize {
+fn told(rt: &impl Print, line: usize, trip: Trip) -> io::Result<usize> {
     match trip {
-        Trip::Same => 0,
-        Trip::Different => 1,
+        Trip::Same => Ok(0),
+        Trip::Different => Ok(1),
         Trip::Refused(f) => {
-            io::write_all(1, b"line ");
-            io::print_decimal(1, line as u64);
-            io::write_all(1, b": refused with ");
-            io::print_decimal(1, f.number as u64);
-            io::write_all(1, b" at ");
-            io::print_decimal(1, rules::place_number(f));
-            io::write_all(1, b"\n");
-            2
+            let place = rules::place_number(f);
+            println!(rt; "line {line}: refused with {} at {place}", f.number)?;
+            Ok(2)
         }
     }
 }

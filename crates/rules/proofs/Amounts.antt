@@ -1,6 +1,7 @@
 -- How many numbers a walk gives, value numbers and object numbers together: at most as many as the message has bytes, and four
 -- more. Each has a byte of its own. A value takes one in line at least; the four numbers of an object, and those that an envelope
 -- gives besides its payload, go to the record or envelope, which has 8 bytes at least; those of the primary object are the four more.
+use Rattle.std.specs.Prelude.{if◌then◌else◌}
 use mathlib.Core.Path.{◌≡◌, refl, ap}
 use mathlib.Core.Bool.{Bool, true, false, not, ◌&&◌}
 use mathlib.Core.List.{List, [], ◌∷◌, ◌++◌}
@@ -12,7 +13,7 @@ use lib.ListN.{length, length-append}
 use Rattle.rules.specs.declared.Place.TheVariants.{Row, Byte}
 use Rattle.rules.specs.declared.Fault.{Fault}
 use Rattle.rules.specs.declared.Layout.{Layout}
-use Rattle.rules.specs.Refusals.{if◌then◌else◌, fault, table_not_sound, too_deep, accepted}
+use Rattle.rules.specs.Refusals.{fault, table_not_sound, too_deep, accepted}
 use Rattle.rules.specs.Bytes.{padded, ones32, ones64}
 use Rattle.rules.specs.TypeTable.{TypeTable, Edition, eight_byte_envelopes, envelope_size, FidlType, bool, number, handle, array, vector, string, struct, box, table, union, strict_enum, strict_bits, none, type_of, member_rows, Content, known, unknown, content_of, below}
 use Rattle.rules.specs.Sizes.{Field, field, fields_of, fields_size, struct_size, layout_as, layout_below, layout_of, size_of}

@@ -16,7 +16,7 @@ use Rattle.rules.specs.Decode.{Message, Decoder, ReadRecord, got}
 use Rattle.rules.specs.Encode as E
 use Rattle.rules.specs.Encode.{Encoded, wrote, Encoder, WriteRecord, put}
 use Rattle.rules.proofs.Bytes.{StandsAt, stands_nil, stands_left, stands_right, stands_join, zeros_length, padded_above, padded_whole, octets_append, octets_zeros, octets_nil}
-use Rattle.rules.proofs.Results.{Took, took, took_inv, Taken, taken, taken_inv, require_inv, write_require_inv, After, after_inv, Record, record-inv, WriteOf, write_record_inv, AsObject, object, object_inv}
+use Rattle.rules.proofs.Results.{Took, took, took_inv, Taken, taken, taken_inv, require_inv, write_require_inv, After, after_inv, Record, record_inv, WriteOf, write_record_inv, AsObject, object, object_inv}
 use Rattle.rules.proofs.Twins.{WellFormed, Decodes, decodes, Encodes, Twins, zero_standing, standing_zero}
 
 -- ---- handles
@@ -66,8 +66,8 @@ pub record RecordTwins (m : Message) (size : ℕ) (read : ℕ → ReadRecord) (w
 
 module _ (m : Message) {s t : ℕ} {read : ℕ → ReadRecord} {write : ℕ → WriteRecord} {K : ℕ → ℕ → Decoder} {G : ℕ → Encoder} (a : RecordTwins m s read write)
     (b : (q v : ℕ) → Twins m t (K q v) (G v)) where
-  record-form : {n u n₁ u₁ : ℕ} {rest vs inl ool : List ℕ} → WriteOf write G n u n₁ u₁ rest vs inl ool → WellFormed (s + t) n u inl ool n₁ u₁
-  record-form (WriteOf.record_of {v = v} e₁ e₂) =
+  record_form : {n u n₁ u₁ : ℕ} {rest vs inl ool : List ℕ} → WriteOf write G n u n₁ u₁ rest vs inl ool → WellFormed (s + t) n u inl ool n₁ u₁
+  record_form (WriteOf.record_of {v = v} e₁ e₂) =
       let x = a.sized e₁ in
       let y = (b 0 v).well_formed e₂ in
       record {
@@ -81,20 +81,20 @@ module _ (m : Message) {s t : ℕ} {read : ℕ → ReadRecord} {write : ℕ → 
         whole = y.whole;
       }
 
-  record-run : {at n u n₁ u₁ v : ℕ} {vs rest : List ℕ} → read at ≡ got v → Decodes (K at v) (at + s) n u n₁ u₁ vs rest → Decodes (D.record_then s read K) at n u n₁ u₁ (v ∷ vs) rest
+  record_run : {at n u n₁ u₁ v : ℕ} {vs rest : List ℕ} → read at ≡ got v → Decodes (K at v) (at + s) n u n₁ u₁ vs rest → Decodes (D.record_then s read K) at n u n₁ u₁ (v ∷ vs) rest
   unfolding D.record_then
-  record-run {v = v} q (decodes us t₁ e) = decodes (v ∷ us) t₁ (rw (q, e))
+  record_run {v = v} q (decodes us t₁ e) = decodes (v ∷ us) t₁ (rw (q, e))
 
-  record-decodes : {n u n₁ u₁ : ℕ} {rest vs inl ool : List ℕ} → WriteOf write G n u n₁ u₁ rest vs inl ool
+  record_decodes : {n u n₁ u₁ : ℕ} {rest vs inl ool : List ℕ} → WriteOf write G n u n₁ u₁ rest vs inl ool
       → {at : ℕ} → StandsAt m.bytes at inl → StandsAt m.bytes n ool → u₁ ≤ m.handles → Decodes (D.record_then s read K) at n u n₁ u₁ vs rest
-  record-decodes (WriteOf.record_of {v = v} {bytes = bs} {inl = inl} e₁ e₂) {at} h k l =
-      record-run (a.reads_what_was_written e₁ (stands_left m.bytes at bs inl h))
+  record_decodes (WriteOf.record_of {v = v} {bytes = bs} {inl = inl} e₁ e₂) {at} h k l =
+      record_run (a.reads_what_was_written e₁ (stands_left m.bytes at bs inl h))
       ((b at v).decodes_what_was_encoded e₂ (rw (a.sized e₁) at (stands_right m.bytes at bs inl h)) k l)
 
-  record-joined : {at n u n₁ u₁ v : ℕ} {vs : List ℕ} {tr : List Event} {rest bs : List ℕ} → write v ≡ put bs → StandsAt m.bytes at bs
+  record_joined : {at n u n₁ u₁ v : ℕ} {vs : List ℕ} {tr : List Event} {rest bs : List ℕ} → write v ≡ put bs → StandsAt m.bytes at bs
       → Encodes m (G v) (at + s) n u n₁ u₁ vs tr rest → Encodes m (E.record_then write G) at n u n₁ u₁ (v ∷ vs) tr rest
   unfolding E.record_then
-  record-joined {at = at} {bs = bs} e h y = record {
+  record_joined {at = at} {bs = bs} e h y = record {
     inl = bs ++ y.inl;
     ool = y.ool;
     writes = rw (e, y.writes);
@@ -105,18 +105,18 @@ module _ (m : Message) {s t : ℕ} {read : ℕ → ReadRecord} {write : ℕ → 
     unknowns = y.unknowns;
   }
 
-  record-encodes : {at n u n₁ u₁ : ℕ} {vs : List ℕ} {tr : List Event} → Record (read at) (λ v. K at v (at + s) n u) n₁ u₁ vs tr
+  record_encodes : {at n u n₁ u₁ : ℕ} {vs : List ℕ} {tr : List Event} → Record (read at) (λ v. K at v (at + s) n u) n₁ u₁ vs tr
       → at + (s + t) ≤ length m.bytes → n ≤ length m.bytes → (rest : List ℕ) → Encodes m (E.record_then write G) at n u n₁ u₁ vs tr rest
-  record-encodes {at} (Record.record_of {v = v} e₁ e₂) h k rest =
+  record_encodes {at} (Record.record_of {v = v} e₁ e₂) h k rest =
       let x = a.writes_what_was_read e₁ (omega arith) in
-      record-joined x.1 x.2 ((b at v).encodes_what_was_decoded e₂ (omega arith) k rest)
+      record_joined x.1 x.2 ((b at v).encodes_what_was_decoded e₂ (omega arith) k rest)
 
   pub twins_record : Twins m (s + t) (D.record_then s read K) (E.record_then write G)
   unfolding D.record_then
   twins_record = record {
-    well_formed = λ {vs} e. record-form (write_record_inv write G vs e);
-    decodes_what_was_encoded = λ {vs} e h k l. record-decodes (write_record_inv write G vs e) h k l;
-    encodes_what_was_decoded = λ {at} {n} {u} e h k rest. record-encodes (record-inv (read at) (λ v. K at v (at + s) n u) e) h k rest;
+    well_formed = λ {vs} e. record_form (write_record_inv write G vs e);
+    decodes_what_was_encoded = λ {vs} e h k l. record_decodes (write_record_inv write G vs e) h k l;
+    encodes_what_was_decoded = λ {at} {n} {u} e h k rest. record_encodes (record_inv (read at) (λ v. K at v (at + s) n u) e) h k rest;
   }
 
 -- ---- objects
@@ -139,7 +139,7 @@ object_form size {n} w b (object e) =
       whole = simp (length-append, zeros_length) (omega (arith, x.sized, x.whole, l, padded_whole size));
     }
 
--- An object stands in the message where its in_line_lem bytes, its fill and what was claimed after it stand.
+-- An object stands in the message where its in-line bytes, its fill and what was claimed after it stand.
 pub record ObjectStands (bytes : List ℕ) (size n : ℕ) (inl ool : List ℕ) : Type 0 where
   pub fits : n + padded size ≤ length bytes
   pub inline : StandsAt bytes n inl

@@ -10,7 +10,7 @@ use lib.ListN.{length, length-append, take}
 use lib.Seq.{take-append_seam}
 use Rattle.rules.specs.declared.Place.TheVariants.{Byte}
 use Rattle.rules.specs.declared.Fault.{Fault}
-use Rattle.rules.specs.Refusals.{fault, not_aValue, envelope_form_wrong, byte_number_wrong, handle_number_wrong}
+use Rattle.rules.specs.Refusals.{fault, not_a_value, envelope_form_wrong, byte_number_wrong, handle_number_wrong}
 use Rattle.rules.specs.Bytes.{Octets, word, bytes_of}
 use Rattle.rules.specs.Trace.{Event}
 use Rattle.rules.specs.Decode as D
@@ -31,7 +31,7 @@ checked_inv : (holds : List ℕ → Bool) (vs : List ℕ) (r : Encoded) {inl ool
     → E.checked_goes holds vs r ≡ wrote inl ool n u rest → Checked holds r vs inl ool n u rest
 checked_inv holds vs (cannot number left) e = absurd (cannot_not_wrote e)
 checked_inv holds vs (wrote inl₁ ool₁ n₁ u₁ rest₁) {inl} {ool} {n} {u} {rest} e =
-    let i = write_require_inv (holds (take (length vs - length rest₁) vs)) not_aValue (E.last_taken vs) (wrote inl₁ ool₁ n₁ u₁ rest₁) e in
+    let i = write_require_inv (holds (take (length vs - length rest₁) vs)) not_a_value (E.last_taken vs) (wrote inl₁ ool₁ n₁ u₁ rest₁) e in
     let q : wrote inl₁ ool₁ n₁ u₁ rest₁ ≡ wrote inl ool n u rest = i.1 in
     let z : rest₁ ≡ rest = cc in
     passed q (rw z at i.0)

@@ -1,5 +1,6 @@
 -- What a part of the walk meets is so in the message: the fill of every object that is claimed is zero, the word of every
 -- present handle is all ones, and unknown content has room for the handles that it claims. It holds whether the part goes on or is stopped: an event comes after the test that it is about.
+use Rattle.std.specs.Prelude.{if◌then◌else◌}
 use mathlib.Core.Path.{◌≡◌, refl}
 use mathlib.Core.Bool.{Bool, true, false, not}
 use mathlib.Core.List.{List, [], ◌∷◌, ◌++◌}
@@ -10,7 +11,7 @@ use borrow.Author.Tests.{leb-true}
 use lib.ListN.{length}
 use Rattle.rules.specs.declared.Place.TheVariants.{Byte}
 use Rattle.rules.specs.declared.Fault.{Fault}
-use Rattle.rules.specs.Refusals.{if◌then◌else◌, fault, object_does_not_fit, fill_not_zero, absent_not_zero, too_few_handles, envelope_form_wrong, byte_number_wrong, handle_number_wrong, present_envelope_zero, last_envelope_zero}
+use Rattle.rules.specs.Refusals.{fault, object_does_not_fit, fill_not_zero, absent_not_zero, too_few_handles, envelope_form_wrong, byte_number_wrong, handle_number_wrong, present_envelope_zero, last_envelope_zero}
 use Rattle.rules.specs.Bytes.{part, word, zeros, leading_zeros, padded, ones32}
 use Rattle.rules.specs.Trace.{Event, claimed, present_handle, unknown_content, object_list, handles_of, FillsAreZero, PresentHandlesAreOnes}
 use Rattle.rules.specs.Decode as D
@@ -110,19 +111,19 @@ module _ (m : Message) where
   pub emit_true : (vs : List ℕ) {f : Decoder} → Truthful f → Truthful (D.emit vs f)
   emit_true vs {f} x = record { met = λ at next used. true_given vs (f at next used) (x.met at next used) }
 
-  record-goes-true : (r : ReadRecord) (k : ℕ → Decoded) → ((v : ℕ) → r ≡ got v → True (k v)) → True (D.record_goes r k)
-  record-goes-true (got v) k x = true_given (v ∷ []) (k v) (x v refl)
-  record-goes-true (wrong f) k x = met_nil m.bytes
+  record_goes_true : (r : ReadRecord) (k : ℕ → Decoded) → ((v : ℕ) → r ≡ got v → True (k v)) → True (D.record_goes r k)
+  record_goes_true (got v) k x = true_given (v ∷ []) (k v) (x v refl)
+  record_goes_true (wrong f) k x = met_nil m.bytes
 
   -- What a record leads to may rest on what was read.
-  pub record-true : (size : ℕ) (read : ℕ → ReadRecord) (continue : ℕ → ℕ → Decoder) → ((at v : ℕ) → read at ≡ got v → Truthful (continue at v)) → Truthful (D.record_then size read continue)
+  pub record_true : (size : ℕ) (read : ℕ → ReadRecord) (continue : ℕ → ℕ → Decoder) → ((at v : ℕ) → read at ≡ got v → Truthful (continue at v)) → Truthful (D.record_then size read continue)
   unfolding D.record_then
-  record-true size read continue x = record {
-    met = λ at next used. record-goes-true (read at) (λ v. continue at v (at + size) next used) (λ v e. (x at v e).met (at + size) next used);
+  record_true size read continue x = record {
+    met = λ at next used. record_goes_true (read at) (λ v. continue at v (at + size) next used) (λ v e. (x at v e).met (at + size) next used);
   }
 
   pub number_true : (width : ℕ) (judge : ℕ → Judged) → Truthful (D.record_then width (read_number m width judge) (λ at v. D.nothing))
-  number_true width judge = record-true width (read_number m width judge) (λ at v. D.nothing) (λ at v e. nothing_true)
+  number_true width judge = record_true width (read_number m width judge) (λ at v. D.nothing) (λ at v e. nothing_true)
 
   pub word_true : (width : ℕ) → Truthful (decode_word m width)
   unfolding decode_word

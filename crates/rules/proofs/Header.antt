@@ -1,4 +1,5 @@
 -- W-203: an epitaph that was written is read back, and an accepted one is what would be written.
+use Rattle.std.specs.Prelude.{if◌then◌else◌}
 use mathlib.Core.Path.{◌≡◌, refl, sym, ap, ◌∙◌}
 use mathlib.Core.Bool.{Bool, true, false, not, ◌||◌}
 use mathlib.Core.List.{List, [], ◌∷◌, ◌++◌}
@@ -9,7 +10,7 @@ use borrow.Author.Tests.{lt-ltb, le-ltb, eqb-true}
 use lib.ListN.{length, drop, get_or, length-append}
 use lib.Seq.{drop-cons}
 use lib.IntN.{ℤ, pos, negsuc}
-use Rattle.rules.specs.Refusals.{if◌then◌else◌, Answer, accepted}
+use Rattle.rules.specs.Refusals.{Answer, accepted}
 use Rattle.rules.specs.Bytes.{Octets, little_endian, bytes_of, part, word, zeros, leading_zeros, ones32, ones64, Fits32, pattern32, signed32}
 use Rattle.rules.specs.Header.{Header, header_of, is_epitaph, require_status, read_header, status, body, header_bytes, epitaph_bytes, epitaph_header, EpitaphIsReadBack, EpitaphHasOneSpelling}
 use Rattle.rules.proofs.Bytes.{little_endian_bytes_of, bytes_of_length, zeros_length, zeros_leading_zeros, part_length, StandsAt, stands_part, stands_join, standing_word, word_below}

@@ -1,4 +1,5 @@
 -- Envelopes that may be absent, must be zero, or may not be: content that goes on is never eight zero bytes.
+use Rattle.std.specs.Prelude.{if◌then◌else◌}
 use mathlib.Core.Path.{◌≡◌, refl}
 use mathlib.Core.Bool.{Bool, true, false, not}
 use mathlib.Core.List.{List, [], ◌∷◌}
@@ -8,7 +9,7 @@ use lib.Dec.{eqb}
 use borrow.Author.Tests.{eqb-true}
 use lib.ListN.{length}
 use Rattle.rules.specs.declared.Place.TheVariants.{Byte}
-use Rattle.rules.specs.Refusals.{if◌then◌else◌, fault, absent_not_zero, not_aValue, envelope_form_wrong, byte_number_wrong, handle_number_wrong, present_envelope_zero, last_envelope_zero}
+use Rattle.rules.specs.Refusals.{fault, absent_not_zero, not_a_value, envelope_form_wrong, byte_number_wrong, handle_number_wrong, present_envelope_zero, last_envelope_zero}
 use Rattle.rules.specs.Bytes.{zeros}
 use Rattle.rules.specs.Trace.{Event, object_list, present_handles, unknown_handles, unknown_out_of_line, unknown_lengths, Tiles}
 use Rattle.rules.specs.Decode as D
@@ -42,7 +43,7 @@ write_optional_inv : (size : ℕ) (last : Bool) (g : Encoder) (vs : List ℕ) {n
 unfolding E.optional_envelope
 write_optional_inv size last g [] e = absurd (cannot_not_wrote e)
 write_optional_inv size last g (zero ∷ vs) {n} {u} {n₁} {u₁} {inl} {ool} {rest} e =
-    let i = write_require_inv (not last) not_aValue (E.last_taken vs) (wrote (zeros size) [] n u vs) e in
+    let i = write_require_inv (not last) not_a_value (E.last_taken vs) (wrote (zeros size) [] n u vs) e in
     let a : inl ≡ zeros size = cc in
     let b : ool ≡ [] = cc in
     let c : n₁ ≡ n = cc in

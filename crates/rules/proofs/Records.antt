@@ -1,4 +1,5 @@
 -- Numbers, presences and counts: what is written is read, and what is read is written.
+use Rattle.std.specs.Prelude.{if◌then◌else◌}
 use mathlib.Core.Path.{◌≡◌, refl}
 use mathlib.Core.Bool.{Bool, true, false}
 use mathlib.Core.List.{List}
@@ -8,7 +9,7 @@ use lib.Dec.{leb, ltb, eqb}
 use borrow.Author.Tests.{ltb-true, lt-ltb, eqb-true, eq-eqb, ne_eqb}
 use lib.ListN.{length, length-append}
 use Rattle.rules.specs.declared.Fault.{Fault}
-use Rattle.rules.specs.Refusals.{if◌then◌else◌, required_absent, absent_not_zero, count_over_largest}
+use Rattle.rules.specs.Refusals.{required_absent, absent_not_zero, count_over_largest}
 use Rattle.rules.specs.Bytes.{Octets, word, bytes_of, ones64}
 use Rattle.rules.specs.Decode.{Message, ReadRecord, got, wrong}
 use Rattle.rules.specs.Encode.{WriteRecord, put, unfit}

@@ -1,4 +1,5 @@
 -- What a result that went on, or that was written, says of the parts that it was made of.
+use Rattle.std.specs.Prelude.{if◌then◌else◌}
 use mathlib.Core.Path.{◌≡◌, refl, sym, ◌∙◌}
 use mathlib.Core.Bool.{Bool, true, false}
 use mathlib.Core.List.{List, [], ◌∷◌, ◌++◌}
@@ -8,7 +9,7 @@ use lib.Dec.{leb}
 use borrow.Author.Tests.{leb-true}
 use Rattle.rules.specs.declared.Place.TheVariants.{Byte}
 use Rattle.rules.specs.declared.Fault.{Fault}
-use Rattle.rules.specs.Refusals.{if◌then◌else◌, fault, too_few_handles, too_many_handles}
+use Rattle.rules.specs.Refusals.{fault, too_few_handles, too_many_handles}
 use Rattle.rules.specs.Bytes.{zeros, padded}
 use Rattle.rules.specs.Trace.{Event, handles_of}
 use Rattle.rules.specs.Decode as D
@@ -101,12 +102,12 @@ write_then_inv (wrote inl₁ ool₁ n₁ u₁ rest₁) k e = write_then_after k 
 pub data Record (r : ReadRecord) (k : ℕ → Decoded) (n u : ℕ) : List ℕ → List Event → Type 0 where
   record_of : {v : ℕ} {vs : List ℕ} {t : List Event} → r ≡ got v → k v ≡ went n u vs t → Record r k n u (v ∷ vs) t
 
-record-after : (v : ℕ) (k : ℕ → Decoded) {n u : ℕ} {vs : List ℕ} {t : List Event} → After (v ∷ []) [] (k v) n u vs t → Record (got v) k n u vs t
-record-after v k (after e) = record_of refl e
+record_after : (v : ℕ) (k : ℕ → Decoded) {n u : ℕ} {vs : List ℕ} {t : List Event} → After (v ∷ []) [] (k v) n u vs t → Record (got v) k n u vs t
+record_after v k (after e) = record_of refl e
 
-pub record-inv : (r : ReadRecord) (k : ℕ → Decoded) {n u : ℕ} {vs : List ℕ} {t : List Event} → D.record_goes r k ≡ went n u vs t → Record r k n u vs t
-record-inv (wrong f) k e = absurd (stopped_not_went e)
-record-inv (got v) k e = record-after v k (after_inv (v ∷ []) [] (k v) e)
+pub record_inv : (r : ReadRecord) (k : ℕ → Decoded) {n u : ℕ} {vs : List ℕ} {t : List Event} → D.record_goes r k ≡ went n u vs t → Record r k n u vs t
+record_inv (wrong f) k e = absurd (stopped_not_went e)
+record_inv (got v) k e = record_after v k (after_inv (v ∷ []) [] (k v) e)
 
 pub data WriteOf (write : ℕ → WriteRecord) (k : ℕ → Encoder) (n u n₁ u₁ : ℕ) (rest : List ℕ) : List ℕ → List ℕ → List ℕ → Type 0 where
   record_of : {v : ℕ} {vs bytes inl ool : List ℕ} → write v ≡ put bytes → k v vs n u ≡ wrote inl ool n₁ u₁ rest

@@ -1,11 +1,11 @@
 -- W-201: where text breaks lies in the bytes, what stands before is text, and with any byte more it is none.
+use Rattle.std.specs.Prelude.{if◌then◌else◌}
 use mathlib.Core.Path.{◌≡◌, refl, ap}
 use mathlib.Core.Bool.{Bool, true, false}
 use mathlib.Core.List.{List, [], ◌∷◌}
 use Prim.Native.Nat.{ℕ, zero, suc, ◌+◌, ◌-◌, ◌≤◌, ◌<◌}
 use native.Mathlib.Omega.{arith}
 use lib.ListN.{length, take}
-use Rattle.rules.specs.Refusals.{if◌then◌else◌}
 use Rattle.rules.specs.Text.{Range, holds, forms, Led, led, not_a_lead, leads, Text, text, broken, follows, utf8, is_text, start_of, is_utf8, broken_at, BreaksThere, TextBreaksThere}
 
 -- At the start of the sequence that was begun, which the bytes so far leave open; or later, where a sequence would start.

@@ -1,11 +1,11 @@
 -- Laws of traces: what a trace in two parts comes to.
+use Rattle.std.specs.Prelude.{if◌then◌else◌}
 use mathlib.Core.Path.{◌≡◌, refl, ap}
 use mathlib.Core.Bool.{Bool, true, false}
 use mathlib.Core.List.{List, [], ◌∷◌, ◌++◌}
 use Prim.Native.Nat.{ℕ, ◌+◌}
 use native.Mathlib.Omega.{arith}
 use lib.Dec.{eqb}
-use Rattle.rules.specs.Refusals.{if◌then◌else◌}
 use Rattle.rules.specs.Bytes.{padded}
 use Rattle.rules.specs.Trace.{Event, claimed, present_handle, unknown_content, unknown_object, object_list, present_handles, unknown_handles, unknown_out_of_line, Tiles, unknown_lengths}
 

@@ -1,4 +1,5 @@
 -- The content of an unknown ordinal: its twins, with the writer's exact order of refusals.
+use Rattle.std.specs.Prelude.{if◌then◌else◌}
 use mathlib.Core.Path.{◌≡◌, refl, ap}
 use mathlib.Core.Bool.{Bool, true, false, ◌&&◌}
 use mathlib.Core.List.{List, [], ◌∷◌, ◌++◌, append-nil}
@@ -9,7 +10,7 @@ use lib.Dec.{leb, ltb, eqb}
 use borrow.Author.Tests.{leb-true, le-leb, ltb-true, lt-ltb, eqb-true, eqb-false, ne_eqb}
 use lib.ListN.{length, length-append}
 use Rattle.rules.specs.declared.Place.TheVariants.{Byte}
-use Rattle.rules.specs.Refusals.{if◌then◌else◌, fault, object_does_not_fit, envelope_form_wrong, handles_impossible, message_too_long, not_aValue}
+use Rattle.rules.specs.Refusals.{fault, object_does_not_fit, envelope_form_wrong, handles_impossible, message_too_long, not_a_value}
 use Rattle.rules.specs.Bytes.{Octets, word, bytes_of, zeros, padded}
 use Rattle.rules.specs.Trace.{Event, claimed, unknown_content, unknown_object, object_list, present_handles, unknown_handles, unknown_out_of_line, unknown_lengths, Tiles}
 use Rattle.rules.specs.Decode as D
@@ -72,7 +73,7 @@ number_inv : (holds : ℕ → Bool) (k : ℕ → Encoder) (vs : List ℕ) {n u n
 unfolding E.number_then
 number_inv holds k [] e = absurd (cannot_not_wrote e)
 number_inv holds k (v ∷ vs) {n} {u} e =
-    let i = write_require_inv (holds v) not_aValue (E.last_taken vs) (k v vs n u) e in
+    let i = write_require_inv (holds v) not_a_value (E.last_taken vs) (k v vs n u) e in
     number_of i.0 i.1
 
 -- Handles, then a part.

@@ -1,4 +1,5 @@
 -- Whatever the walk comes to, what it meets is so in the message: kind by kind, for every type table.
+use Rattle.std.specs.Prelude.{if◌then◌else◌}
 use mathlib.Core.Path.{◌≡◌, refl}
 use mathlib.Core.Bool.{Bool, true, false, ◌&&◌}
 use mathlib.Core.List.{List, [], ◌∷◌}
@@ -8,7 +9,7 @@ use borrow.Author.Tests.{leb-true, ltb-true}
 use lib.Dec.{leb, ltb, eqb}
 use Rattle.rules.specs.declared.Place.TheVariants.{Row, Byte}
 use Rattle.rules.specs.declared.Layout.{Layout}
-use Rattle.rules.specs.Refusals.{if◌then◌else◌, fault, table_not_sound, too_deep, required_absent, envelope_form_wrong, handles_impossible}
+use Rattle.rules.specs.Refusals.{fault, table_not_sound, too_deep, required_absent, envelope_form_wrong, handles_impossible}
 use Rattle.rules.specs.Bytes.{word, ones32, ones64}
 use Rattle.rules.specs.TypeTable.{Edition, eight_byte_envelopes, envelope_size, FidlType, bool, number, handle, array, vector, string, struct, box, table, union, strict_enum, strict_bits, none, type_of, member_rows, Content, known, unknown, content_of, below}
 use Rattle.rules.specs.Sizes.{Field, field, fields_of, layout_below, size_of}
@@ -22,7 +23,7 @@ use Rattle.rules.specs.Walk as W
 use Rattle.rules.specs.Answers.{walk}
 use Rattle.rules.proofs.Tests.{both}
 use Rattle.rules.proofs.Records.{read_if_inv, wrong_not_got, present_ones}
-use Rattle.rules.proofs.Events.{Met, met_handle, met_unknown, True, Truthful, true_require, true_if, nothing_true, refuse_true, sequence_true, elements_true, here_true, emit_true, record-true, number_true, word_true, checked_true, fill_true, claim_true, take_true, optional_true, last_true, zero_true, present_true, numbered_true, flagged_true}
+use Rattle.rules.proofs.Events.{Met, met_handle, met_unknown, True, Truthful, true_require, true_if, nothing_true, refuse_true, sequence_true, elements_true, here_true, emit_true, record_true, number_true, word_true, checked_true, fill_true, claim_true, take_true, optional_true, last_true, zero_true, present_true, numbered_true, flagged_true}
 
 module _ (m : Message) where
   -- What lies deeper.
@@ -30,10 +31,10 @@ module _ (m : Message) where
     spent : AllTruthful D.spent
     deeper : {rows : ℕ → Decoder} {below : D.Deeper} → ((row : ℕ) → Truthful m (rows row)) → AllTruthful below → AllTruthful (D.deeper rows below)
 
-  deeper_true : {d : D.Deeper} (record-at : ℕ) (k : (ℕ → Decoder) → D.Deeper → Decoder)
-      → ((rows : ℕ → Decoder) (below : D.Deeper) → ((row : ℕ) → Truthful m (rows row)) → AllTruthful below → Truthful m (k rows below)) → AllTruthful d → Truthful m (D.one_deeper d record-at k)
-  deeper_true record-at k x spent = refuse_true m (fault too_deep (Byte record-at))
-  deeper_true record-at k x (deeper {rows} {below} a b) = x rows below a b
+  deeper_true : {d : D.Deeper} (record_at : ℕ) (k : (ℕ → Decoder) → D.Deeper → Decoder)
+      → ((rows : ℕ → Decoder) (below : D.Deeper) → ((row : ℕ) → Truthful m (rows row)) → AllTruthful below → Truthful m (k rows below)) → AllTruthful d → Truthful m (D.one_deeper d record_at k)
+  deeper_true record_at k x spent = refuse_true m (fault too_deep (Byte record_at))
+  deeper_true record_at k x (deeper {rows} {below} a b) = x rows below a b
 
   known_true : (small : Bool) {d : D.Deeper} (row : ℕ) → AllTruthful d → Truthful m (known_as m small d row)
   known_true true row a =
@@ -44,7 +45,7 @@ module _ (m : Message) where
 
   in_line_true : {d : D.Deeper} (at : ℕ) → claimable payload_in_line (handle_number m at) ≡ true → AllTruthful d → Truthful m (unknown_in_line m d at)
   in_line_true at e a =
-      deeper_true at _ (λ rows below x b. emit_true m _ (take_true m at (unknown_content 0 (handle_number m at)) (met_unknown m.bytes 0 (handle_number m at) (leb-true (handle_number m at * 4) payload_in_line e)))) a
+      deeper_true at _ (λ rows below x b. emit_true m (0 ∷ handle_number m at ∷ low_word m at ∷ []) (take_true m at (unknown_content 0 (handle_number m at)) (met_unknown m.bytes 0 (handle_number m at) (leb-true (handle_number m at * 4) payload_in_line e)))) a
 
   -- A byte number that is a positive one is the payload's.
   number_fits : (number handles : ℕ) → ltb 0 number ≡ true → claimable number handles ≡ true → handles * 4 ≤ unknown_payload number
@@ -55,7 +56,7 @@ module _ (m : Message) where
   out_of_line_true row at w e a =
       let fits = number_fits (low_word m at) (handle_number m at) (both (eqb (low_word m at % 8) 0) (ltb 0 (low_word m at)) w).1 e in
       deeper_true at _ (λ rows below x b.
-      emit_true m _ (claim_true m unknown_object row (low_word m at)
+      emit_true m (low_word m at ∷ handle_number m at ∷ []) (claim_true m unknown_object row (low_word m at)
       (sequence_true m 0 (take_true m at (unknown_content (low_word m at) (handle_number m at)) (met_unknown m.bytes (low_word m at) (handle_number m at) fits))
       (elements_true m 8 (λ i. decode_word m 8) (λ i. word_true m 8) 0 (low_word m at / 8))))) a
 
@@ -145,19 +146,19 @@ module _ (m : Message) where
     unfolding W.decode_as
     as_true layouts inner x row bool = number_true m 1 bool_pattern
     as_true layouts inner x row (number width) = word_true m width
-    as_true layouts inner x row (handle optional) = record-true m 4 (read_presence m 4 ones32 optional) (W.after_handle m) (after_handle_true optional)
+    as_true layouts inner x row (handle optional) = record_true m 4 (read_presence m 4 ones32 optional) (W.after_handle m) (after_handle_true optional)
     as_true layouts inner x row (array element count) = elements_true m (layouts element).size (λ i. inner element) (λ i. x element) 0 count
     as_true layouts inner x row (vector element largest optional) =
-        record-true m 16 (read_count m optional largest) (W.after_vector m d row element) (λ at v e. after_vector_true a row element at v)
-    as_true layouts inner x row (string largest optional) = record-true m 16 (read_count m optional largest) (W.after_string m d row) (λ at v e. after_string_true a row at v)
+        record_true m 16 (read_count m optional largest) (W.after_vector m d row element) (λ at v e. after_vector_true a row element at v)
+    as_true layouts inner x row (string largest optional) = record_true m 16 (read_count m optional largest) (W.after_string m d row) (λ at v e. after_string_true a row at v)
     as_true layouts inner x row (struct first count) = struct_true layouts inner x (fields_of layouts (member_rows m.table first count))
-    as_true layouts inner x row (box element) = record-true m 8 (read_presence m 8 ones64 true) (W.after_box m d element) (λ at v e. after_box_true a element at v)
+    as_true layouts inner x row (box element) = record_true m 8 (read_presence m 8 ones64 true) (W.after_box m d element) (λ at v e. after_box_true a element at v)
     as_true layouts inner x row (table first count) =
         let content = content_of m.table first count in
-        record-true m 16 (read_table m) (W.after_table m d row content) (λ at v e. after_table_true a row content at v)
+        record_true m 16 (read_table m) (W.after_table m d row content) (λ at v e. after_table_true a row content at v)
     as_true layouts inner x row (union first count optional flexible) =
         let content = content_of m.table first count in
-        record-true m 8 (read_number m 8 (ordinal_pattern content optional flexible)) (W.after_union m d row content) (λ at v e. after_union_true a row content at v)
+        record_true m 8 (read_number m 8 (ordinal_pattern content optional flexible)) (W.after_union m d row content) (λ at v e. after_union_true a row content at v)
     as_true layouts inner x row (strict_enum width first count) = number_true m width (enum_pattern m.table first count)
     as_true layouts inner x row (strict_bits width mask) = number_true m width (bits_pattern m.table mask)
     as_true layouts inner x row none = refuse_true m (fault table_not_sound (Row row))

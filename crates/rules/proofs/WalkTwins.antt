@@ -1,4 +1,5 @@
 -- The walk and the writer are twins, kind by kind, for every type table.
+use Rattle.std.specs.Prelude.{if◌then◌else◌}
 use mathlib.Core.Path.{◌≡◌, refl}
 use mathlib.Core.Bool.{Bool, true, false, ◌&&◌}
 use mathlib.Core.List.{List, [], ◌∷◌}
@@ -10,7 +11,7 @@ use lib.ListN.{length}
 use Rattle.rules.specs.declared.Place.TheVariants.{Row, Byte}
 use Rattle.rules.specs.declared.Fault.{Fault}
 use Rattle.rules.specs.declared.Layout.{Layout}
-use Rattle.rules.specs.Refusals.{if◌then◌else◌, fault, object_does_not_fit, table_not_sound, too_deep}
+use Rattle.rules.specs.Refusals.{fault, object_does_not_fit, table_not_sound, too_deep}
 use Rattle.rules.specs.Bytes.{Octets, padded, ones32, ones64}
 use Rattle.rules.specs.TypeTable.{Edition, eight_byte_envelopes, envelope_size, FidlType, bool, number, handle, array, vector, string, struct, box, table, union, strict_enum, strict_bits, none, type_of, member_rows, Content, known, unknown, content_of, below}
 use Rattle.rules.specs.Sizes.{Field, field, fields_of, fields_size, struct_size, layout_as, layout_below, layout_of, size_of}

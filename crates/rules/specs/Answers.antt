@@ -3,7 +3,7 @@
 use Rattle.std.specs.Prelude.{List, [], ◌∷◌, ℕ, ◌-◌, leb, ltb, eqb, length}
 use Rattle.rules.specs.declared.Place.TheVariants.{Byte, Index, Amount}
 use Rattle.rules.specs.declared.Layout.{Layout}
-use Rattle.rules.specs.Refusals.{fault, place_number, message_too_long, too_many_handles, text_not_utf8, bytes_left, handles_left, room_too_small, not_aValue, Answer, accepted, refused, require, and_then, lent_after}
+use Rattle.rules.specs.Refusals.{fault, place_number, message_too_long, too_many_handles, text_not_utf8, bytes_left, handles_left, room_too_small, not_a_value, Answer, accepted, refused, require, and_then, lent_after}
 use Rattle.rules.specs.Bytes.{zeros}
 use Rattle.rules.specs.TypeTable.{TypeTable, row_count}
 use Rattle.rules.specs.Sizes.{layout_of, size_of}
@@ -85,7 +85,7 @@ pub record Written : Type 0 where
 -- "then 26 for numbers left": 26 at the first of them. A refusal's index is how many numbers stand before the one judged.
 abbrev pub closed : (total : ℕ) → Encoded → Answer Written
 closed total (wrote inline out_of_line next used []) = accepted (record { bytes = out_of_line; handles = used })
-closed total (wrote inline out_of_line next used (v ∷ rest)) = refused (fault not_aValue (Index (total - length (v ∷ rest))))
+closed total (wrote inline out_of_line next used (v ∷ rest)) = refused (fault not_a_value (Index (total - length (v ∷ rest))))
 closed total (cannot number left) = refused (fault number (Index (total - left)))
 
 unfoldable pub encode : TypeTable → (root : ℕ) → (values : List ℕ) → Encoded

@@ -1,7 +1,6 @@
 -- Bytes: little-endian words, signed numbers, zero fill, rounding up.
 -- Assumes nothing.
-use Rattle.std.specs.Prelude.{List, [], ◌∷◌, ℕ, zero, suc, ◌+◌, ◌-◌, ◌*◌, ◌/◌, ◌%◌, ◌<◌, ltb, ℤ, pos, negsuc, take, drop}
-use Rattle.rules.specs.Refusals.{if◌then◌else◌}
+use Rattle.std.specs.Prelude.{List, [], ◌∷◌, ℕ, zero, suc, ◌+◌, ◌-◌, ◌*◌, ◌/◌, ◌%◌, ◌<◌, ltb, ℤ, pos, negsuc, take, drop, if◌then◌else◌}
 
 -- Bytes are numbers below 256.
 unfoldable pub Octets : List ℕ → Type 0

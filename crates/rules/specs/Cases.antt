@@ -153,7 +153,7 @@ slips =
     -- "Reading the byte number as the payload's own size, without what it refers to."
     ∷ checks vector_table 3 (vector_member 24) 0 0 0
     ∷ checks vector_table 3 (vector_member 16) 0 16 16
-    -- "Rounding in_line_lem structs to 8": P1's second envelope holds a struct of 4 bytes in line.
+    -- "Rounding in-line structs to 8": P1's second envelope holds a struct of 4 bytes in line.
     ∷ checks pad_table 4 p1 0 0 0
     ∷ []
 
@@ -218,7 +218,7 @@ requests =
     -- and out of line, "tested after 16 at the same envelope".
     ∷ checks vector_table 3 (set (vector_member 24) 20 1) 1 28 16
     ∷ checks vector_table 3 (set (vector_member 16) 20 1) 1 16 16
-    -- W-209: "An unknown in_line_lem payload of four bytes claimed nine handles",
+    -- W-209: "An unknown in-line payload of four bytes claimed nine handles",
     ∷ checks pad_table 4 (unknown_fourth 9) 9 35 40
     -- "at most one handle in line": two, and one;
     ∷ checks pad_table 4 (unknown_fourth 2) 2 35 40

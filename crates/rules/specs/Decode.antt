@@ -1,9 +1,9 @@
 -- What the walk is made of. Encode.antt has a twin for each part.
 -- Assumes nothing.
-use Rattle.std.specs.Prelude.{Bool, true, false, not, List, [], ◌∷◌, ◌++◌, ℕ, zero, suc, ◌+◌, ◌-◌, ◌*◌, leb, eqb, length}
+use Rattle.std.specs.Prelude.{Bool, true, false, not, List, [], ◌∷◌, ◌++◌, ℕ, zero, suc, ◌+◌, ◌-◌, ◌*◌, leb, eqb, length, if◌then◌else◌}
 use Rattle.rules.specs.declared.Place.TheVariants.{Byte}
 use Rattle.rules.specs.declared.Fault.{Fault}
-use Rattle.rules.specs.Refusals.{if◌then◌else◌, fault, too_deep, object_does_not_fit, fill_not_zero, absent_not_zero, too_few_handles, present_envelope_zero, last_envelope_zero}
+use Rattle.rules.specs.Refusals.{fault, too_deep, object_does_not_fit, fill_not_zero, absent_not_zero, too_few_handles, present_envelope_zero, last_envelope_zero}
 use Rattle.rules.specs.Bytes.{part, leading_zeros, padded}
 use Rattle.rules.specs.TypeTable.{TypeTable}
 use Rattle.rules.specs.Trace.{Event, claimed, handles_of}
@@ -90,7 +90,7 @@ record_goes (got v) k = after (v ∷ []) [] (k v)
 record_goes (wrong f) k = stopped f [] []
 
 -- A record, then what its value leads to, given the record's place.
-unfoldable pub record_then : (size : ℕ) → (read : ℕ → ReadRecord) → ((record-at value : ℕ) → Decoder) → Decoder
+unfoldable pub record_then : (size : ℕ) → (read : ℕ → ReadRecord) → ((record_at value : ℕ) → Decoder) → Decoder
 record_then size read continue at next used = record_goes (read at) (λ v. continue at v (at + size) next used)
 
 -- A test of the values that a part gave, after it. Its refusal may name a place among them.
@@ -106,9 +106,9 @@ pub data Deeper : Type 0 where
   deeper : (rows : ℕ → Decoder) → Deeper → Deeper
 
 -- 5: at the record or envelope that would go deeper.
-abbrev pub one_deeper : Deeper → (record-at : ℕ) → ((rows : ℕ → Decoder) → Deeper → Decoder) → Decoder
-one_deeper spent record-at k = refuse (fault too_deep (Byte record-at))
-one_deeper (deeper rows below) record-at k = k rows below
+abbrev pub one_deeper : Deeper → (record_at : ℕ) → ((rows : ℕ → Decoder) → Deeper → Decoder) → Decoder
+one_deeper spent record_at k = refuse (fault too_deep (Byte record_at))
+one_deeper (deeper rows below) record_at k = k rows below
 
 -- ---- the message
 

@@ -1,10 +1,10 @@
 -- What the writer is made of: a twin for each part of Decode.antt.
 -- Assumes nothing.
 use Rattle.std.specs.Prelude.{Bool, true, false, not, List, [], ◌∷◌, ◌++◌, ℕ, zero, suc, ◌+◌, ◌-◌, leb, length, take}
-use Rattle.rules.specs.Refusals.{message_too_long, too_many_handles, too_deep, not_aValue}
+use Rattle.rules.specs.Refusals.{message_too_long, too_many_handles, too_deep, not_a_value}
 use Rattle.rules.specs.Bytes.{zeros, padded}
 
--- A part wrote its in_line_lem bytes and the bytes of the objects it claimed, which only ever are put one after the other;
+-- A part wrote its in-line bytes and the bytes of the objects it claimed, which only ever are put one after the other;
 -- with the next free place, the handles used and the numbers left. Or it cannot: the refusal's number, and how many
 -- numbers there were from the one judged on, which gives its index.
 pub data Encoded : Type 0 where
@@ -51,10 +51,10 @@ elements parts index (suc count) = sequence (parts index) (elements parts (suc i
 
 -- The next number, judged (26 at its index), and what is made of it. "A list that ends early is 26 at its length".
 unfoldable pub number_then : (ℕ → Bool) → (ℕ → Encoder) → Encoder
-number_then holds continue [] next used = cannot not_aValue 0
+number_then holds continue [] next used = cannot not_a_value 0
 number_then holds continue (v ∷ values) next used =
     let written = continue v values next used in
-    require (holds v) not_aValue (last_taken values) written
+    require (holds v) not_a_value (last_taken values) written
 
 pub data WriteRecord : Type 0 where
   put : (bytes : List ℕ) → WriteRecord
@@ -62,11 +62,11 @@ pub data WriteRecord : Type 0 where
 
 abbrev pub record_goes : WriteRecord → (left : ℕ) → Encoded → Encoded
 record_goes (put bytes) left result = after bytes [] result
-record_goes unfit left result = cannot not_aValue left
+record_goes unfit left result = cannot not_a_value left
 
 -- A record of one number, then what it leads to.
 unfoldable pub record_then : (write : ℕ → WriteRecord) → (ℕ → Encoder) → Encoder
-record_then write continue [] next used = cannot not_aValue 0
+record_then write continue [] next used = cannot not_a_value 0
 record_then write continue (v ∷ values) next used =
     let written = continue v values next used in
     record_goes (write v) (last_taken values) written
@@ -74,7 +74,7 @@ record_then write continue (v ∷ values) next used =
 -- A test of the numbers that a part took, after it; at the number before them.
 abbrev pub checked_goes : (List ℕ → Bool) → (values : List ℕ) → Encoded → Encoded
 checked_goes holds values (wrote inline out_of_line next used rest) =
-    require (holds (take (length values - length rest) values)) not_aValue (last_taken values) (wrote inline out_of_line next used rest)
+    require (holds (take (length values - length rest) values)) not_a_value (last_taken values) (wrote inline out_of_line next used rest)
 checked_goes holds values (cannot number left) = cannot number left
 
 unfoldable pub checked : (List ℕ → Bool) → Encoder → Encoder
@@ -124,8 +124,8 @@ take_handles count values next used = require_handles (used + count) values (wro
 
 -- An envelope in a table: 0, which the last may not be, or 1 and its content.
 unfoldable pub optional_envelope : (size : ℕ) → (last : Bool) → Encoder → Encoder
-optional_envelope size last content [] next used = cannot not_aValue 0
+optional_envelope size last content [] next used = cannot not_a_value 0
 optional_envelope size last content (zero ∷ values) next used =
-    require (not last) not_aValue (last_taken values) (wrote (zeros size) [] next used values)
+    require (not last) not_a_value (last_taken values) (wrote (zeros size) [] next used values)
 optional_envelope size last content (suc zero ∷ values) next used = content values next used
-optional_envelope size last content (suc (suc v) ∷ values) next used = cannot not_aValue (last_taken values)
+optional_envelope size last content (suc (suc v) ∷ values) next used = cannot not_a_value (last_taken values)

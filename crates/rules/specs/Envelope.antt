@@ -1,8 +1,8 @@
 -- Envelopes with content, in each edition: how they are walked, and how they are written.
 -- Assumes nothing.
-use Rattle.std.specs.Prelude.{Bool, true, false, ◌&&◌, List, [], ◌∷◌, ◌++◌, ℕ, zero, suc, ◌+◌, ◌-◌, ◌*◌, ◌/◌, ◌%◌, ◌≤◌, leb, ltb, eqb}
+use Rattle.std.specs.Prelude.{Bool, true, false, ◌&&◌, List, [], ◌∷◌, ◌++◌, ℕ, zero, suc, ◌+◌, ◌-◌, ◌*◌, ◌/◌, ◌%◌, ◌≤◌, leb, ltb, eqb, if◌then◌else◌}
 use Rattle.rules.specs.declared.Place.TheVariants.{Byte}
-use Rattle.rules.specs.Refusals.{if◌then◌else◌, fault, envelope_form_wrong, byte_number_wrong, handle_number_wrong, handles_impossible}
+use Rattle.rules.specs.Refusals.{fault, envelope_form_wrong, byte_number_wrong, handle_number_wrong, handles_impossible}
 use Rattle.rules.specs.Bytes.{word, bytes_of, padded}
 use Rattle.rules.specs.TypeTable.{TypeTable, Edition, eight_byte_envelopes, Content, known, unknown}
 use Rattle.rules.specs.Sizes.{size_of}

@@ -1,8 +1,8 @@
 -- The transactional header: document 01's section "The header", and W-203 for epitaphs.
 -- Assumes nothing.
-use Rattle.std.specs.Prelude.{◌≡◌, Bool, true, not, ◌||◌, List, [], ◌∷◌, ◌++◌, ℕ, ◌+◌, leb, eqb, ℤ, pos, length, drop, get_or}
+use Rattle.std.specs.Prelude.{◌≡◌, Bool, true, not, ◌||◌, List, [], ◌∷◌, ◌++◌, ℕ, ◌+◌, leb, eqb, ℤ, pos, length, drop, get_or, if◌then◌else◌}
 use Rattle.rules.specs.declared.Place.TheVariants.{Byte}
-use Rattle.rules.specs.Refusals.{if◌then◌else◌, fault, object_does_not_fit, fill_not_zero, bytes_left, magic_wrong, ordinal_zero, epitaph_transaction, Answer, accepted, refused, require}
+use Rattle.rules.specs.Refusals.{fault, object_does_not_fit, fill_not_zero, bytes_left, magic_wrong, ordinal_zero, epitaph_transaction, Answer, accepted, refused, require}
 use Rattle.rules.specs.Bytes.{Octets, word, bytes_of, part, zeros, leading_zeros, ones64, pattern32, signed32}
 use Rattle.rules.specs.Answers.{require_length, require_room}
 

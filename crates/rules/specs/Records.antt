@@ -1,9 +1,9 @@
 -- Records that stand in line and hold one value number: numbers, presences, counts. Each is read and written.
 -- Assumes nothing.
-use Rattle.std.specs.Prelude.{Bool, true, false, ◌||◌, List, ◌++◌, ℕ, zero, suc, ◌+◌, ◌^◌, leb, ltb, eqb}
+use Rattle.std.specs.Prelude.{Bool, true, false, ◌||◌, List, ◌++◌, ℕ, zero, suc, ◌+◌, ◌^◌, leb, ltb, eqb, if◌then◌else◌}
 use Rattle.std.specs.Int.Bits.{bit_and}
 use Rattle.rules.specs.declared.Place.TheVariants.{Byte}
-use Rattle.rules.specs.Refusals.{if◌then◌else◌, fault, bool_not_zero_or_one, presence_wrong, required_absent, absent_not_zero, count_over_largest, ordinal_unknown, strict_value_unknown}
+use Rattle.rules.specs.Refusals.{fault, bool_not_zero_or_one, presence_wrong, required_absent, absent_not_zero, count_over_largest, ordinal_unknown, strict_value_unknown}
 use Rattle.rules.specs.Bytes.{word, bytes_of, ones64}
 use Rattle.rules.specs.TypeTable.{TypeTable, entry_in, entry_at, Content, known, unknown}
 use Rattle.rules.specs.Decode.{Message, ReadRecord, got, wrong}

@@ -5,11 +5,6 @@ use Rattle.rules.specs.declared.Place.{Place}
 use Rattle.rules.specs.declared.Place.TheVariants.{Row, Byte, Index, Amount}
 use Rattle.rules.specs.declared.Fault.{Fault}
 
-infix 5 if◌then◌else◌
-abbrev pub if◌then◌else◌ {ℓ} : {A : Type ℓ} → Bool → A → A → A
-if true then a else b = a
-if false then a else b = b
-
 -- ---- the numbers
 
 -- the type table is not sound
@@ -113,8 +108,8 @@ abbrev pub epitaph_transaction : ℕ
 epitaph_transaction = 25
 
 -- the list is not a value
-abbrev pub not_aValue : ℕ
-not_aValue = 26
+abbrev pub not_a_value : ℕ
+not_a_value = 26
 
 -- an envelope's handle number is wrong
 abbrev pub handle_number_wrong : ℕ

@@ -62,7 +62,7 @@ row_fits t row (strict_bits width mask) =
     (width_allowed width && eqb (c_at t row) 1 && entries_exist t mask 1) && rising_entries t width mask 1 0
 row_fits t row none = false
 
--- A row is sound: its line, and "no in_line_lem size exceeds 65,528".
+-- A row is sound: its line, and "no in-line size exceeds 65,528".
 unfoldable pub row_sound : TypeTable → ℕ → Bool
 row_sound t row = row_fits t row (type_of t row) && leb (size_of t row) 65528
 

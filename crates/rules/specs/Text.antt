@@ -1,7 +1,6 @@
 -- Text: RFC 3629's grammar, by its byte ranges.
 -- Assumes nothing.
-use Rattle.std.specs.Prelude.{◌≡◌, Bool, true, false, ◌&&◌, List, [], ◌∷◌, ℕ, suc, ◌<◌, leb, length, take}
-use Rattle.rules.specs.Refusals.{if◌then◌else◌}
+use Rattle.std.specs.Prelude.{◌≡◌, Bool, true, false, ◌&&◌, List, [], ◌∷◌, ℕ, suc, ◌<◌, leb, length, take, if◌then◌else◌}
 
 -- A range of bytes, %xLOW-HIGH.
 pub data Range : Type 0 where

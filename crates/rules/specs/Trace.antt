@@ -1,7 +1,6 @@
 -- What a walk meets, in its order: claims, present handles, unknown content.
 -- Assumes nothing.
-use Rattle.std.specs.Prelude.{◌≡◌, List, [], ◌∷◌, ℕ, suc, ◌+◌, ◌-◌, eqb}
-use Rattle.rules.specs.Refusals.{if◌then◌else◌}
+use Rattle.std.specs.Prelude.{◌≡◌, List, [], ◌∷◌, ℕ, suc, ◌+◌, ◌-◌, eqb, if◌then◌else◌}
 use Rattle.rules.specs.Bytes.{part, word, ones32, zeros, padded}
 
 pub data Event : Type 0 where
@@ -12,8 +11,8 @@ pub data Event : Type 0 where
   -- content of an unknown ordinal: its byte number (0 in line) and its handle number
   unknown_content : (bytes handles : ℕ) → Event
 
--- Kinds of objects: primary; vector or string content; boxed struct; envelopes of a table; out_of_line_lem payload; unknown
--- out_of_line_lem content.
+-- Kinds of objects: primary; vector or string content; boxed struct; envelopes of a table; out-of-line payload; unknown
+-- out-of-line content.
 abbrev pub primary_object : ℕ
 primary_object = 1
 

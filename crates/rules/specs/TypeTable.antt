@@ -1,7 +1,6 @@
 -- The type table: rows, the twelve kinds, members and ordinals, entries, and recursion over rows.
 -- Assumes nothing.
-use Rattle.std.specs.Prelude.{Bool, List, [], ◌∷◌, ℕ, zero, suc, ◌+◌, ◌*◌, ◌/◌, ◌%◌, eqb, length, get_or}
-use Rattle.rules.specs.Refusals.{if◌then◌else◌}
+use Rattle.std.specs.Prelude.{Bool, List, [], ◌∷◌, ℕ, zero, suc, ◌+◌, ◌*◌, ◌/◌, ◌%◌, eqb, length, get_or, if◌then◌else◌}
 
 -- An edition of the wire format says what an envelope is. There is one so far: 8 bytes, with payloads of up to 4 bytes in
 -- line. What depends on the edition: `envelope_size` here, and Envelope.antt.

@@ -1,10 +1,12 @@
 // The types that answers are made of, for the rules in specs/ and for all code that is proved against them.
+#![tactic(auto)]
+
 ghost use Rattle.std.specs.Prelude.{◌≡◌};
 ghost use Rattle.rules.specs.Refusals.{place_number};
 
 // What the place of a refusal names: a row of the type table (256: the lists as a whole), a byte of the
 // message, a number of the value list, or an amount (handles used, or the room needed).
-#[derive(Drop)]
+#[derive(Clone, Copy)]
 pub enum Place {
     Row(u32),
     Byte(usize),
@@ -13,14 +15,14 @@ pub enum Place {
 }
 
 // A refusal: its number in document 01, and its place.
-#[derive(Drop)]
+#[derive(Clone, Copy)]
 pub struct Fault {
     pub number: u32,
     pub place: Place,
 }
 
 // What a row takes in line.
-#[derive(Drop)]
+#[derive(Clone, Copy)]
 pub struct Layout {
     pub size: usize,
     pub alignment: usize,

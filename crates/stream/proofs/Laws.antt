@@ -1,5 +1,6 @@
 -- Laws of the number stream, for the code that goes over it by places.
 -- Assumes nothing.
+use Rattle.std.specs.Prelude.{if◌then◌else◌}
 use mathlib.Core.Path.{◌≡◌, refl, sym, ◌∙◌, ap}
 use mathlib.Core.Bool.{Bool, true, false, ◌&&◌, and-false}
 use mathlib.Core.List.{List, [], ◌∷◌}
@@ -10,7 +11,6 @@ use borrow.Author.Tests.{leb-true, le-leb, lt-leb, eq-eqb, ne_eqb}
 use lib.Dec.{leb, eqb}
 use lib.ListN.{length, drop, get_or, set, length-set, length-drop, drop_of_length-le}
 use lib.Seq.{sets, drop-cons, set_out, length-take-le}
-use Rattle.rules.specs.Refusals.{if◌then◌else◌}
 use Rattle.rules.proofs.Tests.{both}
 use Rattle.stream.specs.Numbers.{is_digit, with_digit, numbers_of, line_length, LineRead, list_at, start_at, narrowed, Narrows, third_place, TablePut, same_numbers}
 
@@ -22,17 +22,17 @@ digit_bounds byte digit =
     (leb-true 48 byte tests.0, leb-true byte 57 tests.1)
 
 module _ (text : List ℕ) (at value : ℕ) (inside : at < length text) where
-  numbers-at-digit :
+  numbers_at_digit :
       is_digit (get_or text at 0) ≡ true →
       numbers_of (drop at text) value ≡ numbers_of (drop (at + 1) text) (with_digit value (get_or text at 0))
   unfolding numbers_of
-  numbers-at-digit digit = rw (add-one, drop-cons text at 0) (simp digit)
+  numbers_at_digit digit = rw (add-one, drop-cons text at 0) (simp digit)
 
-  numbers-at-end :
+  numbers_at_end :
       is_digit (get_or text at 0) ≡ false →
       numbers_of (drop at text) value ≡ value ∷ (if eqb (get_or text at 0) 10 then [] else numbers_of (drop (at + 1) text) 0)
   unfolding numbers_of
-  numbers-at-end other = rw (add-one, drop-cons text at 0) (simp other)
+  numbers_at_end other = rw (add-one, drop-cons text at 0) (simp other)
 
   length_at : line_length (drop at text) ≡ suc (if eqb (get_or text at 0) 10 then 0 else line_length (drop (at + 1) text))
   unfolding line_length
@@ -52,13 +52,13 @@ nothing_read text from lent = record { counted = omega arith; passed = refl; put
 module _
     {text : List ℕ} {from value count at : ℕ} {lent numbers : List ℕ}
     (inside : at < length text) (read : Reads text from lent value count at numbers) where
-  pub digit-read :
+  pub digit_read :
       {next : ℕ} → is_digit (get_or text at 0) ≡ true → next ≡ with_digit value (get_or text at 0) →
       Reads text from lent next count (at + 1) numbers
-  digit-read digit is =
+  digit_read digit is =
       let bounds = digit_bounds (get_or text at 0) digit in
       let feed : eqb (get_or text at 0) 10 ≡ false = ne_eqb (get_or text at 0) 10 (λ e. omega arith) in
-      let same = numbers-at-digit text at value inside digit ∙ ap (numbers_of (drop (at + 1) text)) (sym is) in
+      let same = numbers_at_digit text at value inside digit ∙ ap (numbers_of (drop (at + 1) text)) (sym is) in
       record {
         counted = rw same at read.counted;
         passed = omega (arith, read.passed, simp feed at (length_at text at value inside));
@@ -71,7 +71,7 @@ module _
     pub number_read : (get_or text at 0 ≡ 10 → ⊥) → Reads text from lent 0 (count + 1) (at + 1) after
     number_read no-feed =
         let feed : eqb (get_or text at 0) 10 ≡ false = ne_eqb (get_or text at 0) 10 no-feed in
-        let more = simp feed at (numbers-at-end text at value inside other) in
+        let more = simp feed at (numbers_at_end text at value inside other) in
         record {
           counted = omega (arith, read.counted, ap length more);
           passed = omega (arith, read.passed, simp feed at (length_at text at value inside));
@@ -83,18 +83,18 @@ module _
     pub line_read : get_or text at 0 ≡ 10 → LineRead (drop from text) from lent (count + 1) (at + 1) after
     line_read is =
         let feed : eqb (get_or text at 0) 10 ≡ true = eq-eqb (get_or text at 0) 10 is in
-        let last = simp feed at (numbers-at-end text at value inside other) in
+        let last = simp feed at (numbers_at_end text at value inside other) in
         record {
           counted = omega (arith, read.counted, ap length last);
           passed = omega (arith, read.passed, simp feed at (length_at text at value inside));
           put = stored ∙ rw last at read.put;
         }
 
-pub text-read :
+pub text_read :
     {text : List ℕ} {from value count at : ℕ} {lent numbers : List ℕ} →
     length text ≤ at → Reads text from lent value count at numbers → LineRead (drop from text) from lent count at numbers
 unfolding numbers_of line_length
-text-read {text} {at = at} ended read =
+text_read {text} {at = at} ended read =
     let nothing = drop_of_length-le text ended in
     record {
       counted = omega (arith, rw nothing at read.counted);
@@ -112,18 +112,18 @@ line_within [] = omega arith
 line_within (byte ∷ bytes) = feed_or_more (eqb byte 10) (line_length bytes) (length bytes) (line_within bytes)
 
 -- The next line lies further on, and within the text.
-line-length :
+line_length_lem :
     (text : List ℕ) (at : ℕ) → at < length text →
     (0 < line_length (drop at text)) × (at + line_length (drop at text) ≤ length text)
-line-length text at inside =
+line_length_lem text at inside =
     omega (arith, length_at text at 0 inside, line_within (drop at text), length-drop at text)
 
 -- The next line lies further on, and within the text.
-pub line-moved :
+pub line_moved :
     (text : List ℕ) (at : ℕ) {lent after : List ℕ} {count next : ℕ} → at < length text →
     LineRead (drop at text) at lent count next after → (at < next) × (next ≤ length text)
-line-moved text at inside read =
-    let further = line-length text at inside in
+line_moved text at inside read =
+    let further = line_length_lem text at inside in
     (omega (arith, read.passed, further.0), omega (arith, read.passed, further.1))
 
 -- ---- lists of numbers
@@ -162,11 +162,11 @@ pub nothing_stored : (limit : ℕ) (numbers lent : List ℕ) → Stores limit nu
 nothing_stored limit numbers lent = record { inside = omega arith; within = omega arith; room = refl; put = refl }
 
 module _ {limit : ℕ} {numbers lent stores : List ℕ} {at : ℕ} (stored : Stores limit numbers lent at stores) where
-  pub number-stored :
+  pub number_stored :
       at < length numbers → at < length stores →
       Stores limit numbers lent (at + 1) (set stores at (get_or numbers at 0 % limit))
   unfolding narrowed
-  number-stored inside within =
+  number_stored inside within =
       let long = length-set stores at (get_or numbers at 0 % limit) in
       record {
         inside = omega arith;
@@ -203,13 +203,13 @@ start_past numbers at start past = simp (lt-leb at (length numbers) past)
 
 -- ---- a type table
 
-pub table-put :
+pub table_put :
     (numbers : List ℕ) {row_List member-list entry-list rows members rows' members' : List ℕ} {row_count member-count entries next : ℕ} →
     row_List ≡ list_at numbers 0 → member-list ≡ list_at numbers (1 + length row_List) → entry-list ≡ list_at numbers entries →
     Narrows 4294967296 row_List rows row_count rows' → Narrows 4294967296 member-list members member-count members' →
     entries ≡ 1 + length row_List + 1 + length member-list → next ≡ entries + 1 + length entry-list → next < 4611686018427387904 →
     TablePut numbers rows members row_count member-count entries next rows' members'
-table-put numbers {row_List} {member-list} {entry-list} {entries = entries} {next = next} row-list-is member-list-is entry-list-is rows_put members_put third passed near =
+table_put numbers {row_List} {member-list} {entry-list} {entries = entries} {next = next} row-list-is member-list-is entry-list-is rows_put members_put third passed near =
     let third-is : entries ≡ third_place numbers = rw (member-list-is, row-list-is) at third in
     record {
       rows_put = rw row-list-is at rows_put;

@@ -1,5 +1,7 @@
 // The number stream: a case is a line of decimal numbers. Every byte that is no digit ends a number, and a line feed ends
 // the line too. In a case a list stands as its length and then its numbers.
+#![tactic(auto)]
+
 ghost use Rattle.std.specs.Prelude.{◌≡◌, ◌+◌, ◌≤◌, length, take, drop, replicate};
 ghost use Rattle.stream.specs.Numbers.{is_digit, with_digit, LineRead, list_at, start_at, Narrows, TablePut, same_numbers};
 
@@ -23,7 +25,7 @@ pub fn line_room() -> [u64; LINE_ROOM]
 }
 
 // How many numbers stand in a line, and where the next line starts.
-#[derive(Drop)]
+#[derive(Clone, Copy)]
 pub struct Line {
     pub count: usize,
     pub next: usize,
@@ -138,7 +140,7 @@ pub fn to_words(numbers: &[u64], words: &mut [u32]) -> usize
 
 // How many numbers of a row list and of a member list were put into lent lists, where the entries stand, which need no list of their
 // own, and where the numbers after all three start.
-#[derive(Drop)]
+#[derive(Clone, Copy)]
 pub struct Table {
     pub rows: usize,
     pub members: usize,

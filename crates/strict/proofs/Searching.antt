@@ -1,5 +1,6 @@
 -- A value among entries that rise, searched by halves: what each turn of the search leaves to search.
 -- Assumes nothing.
+use Rattle.std.specs.Prelude.{if◌then◌else◌}
 use mathlib.Core.Bool.{Bool, true, false, ◌||◌}
 use mathlib.Core.List.{List}
 use mathlib.Core.Path.{◌≡◌, refl, sym}
@@ -8,7 +9,6 @@ use native.Mathlib.Omega.{arith}
 use borrow.Author.Tests.{ne_eqb, eqb-true, eqb-false, ltb-true, ltb-false}
 use lib.Dec.{eqb, ltb}
 use lib.ListN.{length}
-use Rattle.rules.specs.Refusals.{if◌then◌else◌}
 use Rattle.rules.specs.TypeTable.{entry_in}
 use Rattle.rules.specs.Records.{among_entries}
 use Rattle.layout.proofs.Rising.{rises, not_falls}

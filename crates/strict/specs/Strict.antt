@@ -1,7 +1,7 @@
 -- What strict enums and strict bits allow, by the numbers of their row, and what is asked of those numbers.
 -- Assumes nothing.
-use Rattle.std.specs.Prelude.{Bool, true, List, ◌≡◌, ℕ, ◌+◌, ◌≤◌, ◌<◌, eqb, ltb, length}
-use Rattle.rules.specs.Refusals.{if◌then◌else◌, strict_value_unknown}
+use Rattle.std.specs.Prelude.{Bool, true, List, ◌≡◌, ℕ, ◌+◌, ◌≤◌, ◌<◌, eqb, ltb, length, if◌then◌else◌}
+use Rattle.rules.specs.Refusals.{strict_value_unknown}
 use Rattle.rules.specs.TypeTable.{kind_in, a_in, b_in, c_in, entry_in}
 use Rattle.rules.specs.Sound.{width_allowed}
 use Rattle.rules.specs.Records.{Judged, unless, among_entries, within_mask}

@@ -1,4 +1,6 @@
 // Strict enums and strict bits (W-206): which values their entries allow.
+#![tactic(auto)]
+
 ghost use Rattle.std.specs.Prelude.{◌≡◌, ◌+◌, ◌≤◌, length};
 ghost use Rattle.rules.specs.Records.{among_entries, within_mask};
 ghost use Rattle.strict.specs.Strict.{Rising, Searchable, shift_away, allowed};

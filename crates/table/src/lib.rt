@@ -1,5 +1,7 @@
 // The numbers of a type table by name: a row's kind, a, b and c, a member's ordinal and row. What a list does not have is 0, so
 // any row and any member may be asked for.
+#![tactic(auto)]
+
 ghost use Rattle.std.specs.Prelude.{◌≡◌, ◌+◌, ◌*◌, ◌<◌, get_or};
 ghost use Rattle.rules.specs.TypeTable.{kind_in, a_in, b_in, c_in, ordinal_in, row_in};
 

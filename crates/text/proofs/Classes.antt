@@ -1,5 +1,6 @@
 -- The classes of bytes, by one test over the whole table.
 -- Assumes nothing.
+use Rattle.std.specs.Prelude.{if◌then◌else◌}
 use mathlib.Core.Path.{◌≡◌, refl, sym, ◌∙◌, ap}
 use mathlib.Core.Bool.{Bool, true, false, ◌&&◌, and-false, false≢true}
 use mathlib.Core.List.{List, [], ◌∷◌, map, Memᴰ}
@@ -10,7 +11,6 @@ use native.Mathlib.Omega.{arith}
 use borrow.Author.Tests.{ltb-true, lt-leb, eqb-true}
 use lib.Dec.{eqb, ltb}
 use lib.ListN.{length, get_or}
-use Rattle.rules.specs.Refusals.{if◌then◌else◌}
 use Rattle.rules.specs.Text.{Range, range, holds}
 use Rattle.rules.proofs.Tests.{both}
 use Rattle.text.specs.Classes.{ranges, is_in, meanings, holds_class, classes, class_of, has, Alike, ClassesRight}
@@ -38,6 +38,7 @@ module _ (f g : Range → Bool) where
       cc
 
   each_same : (rs : List Range) → map f rs ≡ map g rs → (r : Range) → Memᴰ r rs → f r ≡ g r
+  each_same [] e r m = elim m [ ]
   each_same (s ∷ rs) e r (Memᴰ.head is) = let here : f s ≡ g s = cc in rw is here
   each_same (s ∷ rs) e r (Memᴰ.tail m) = let later : map f rs ≡ map g rs = cc in each_same rs later r m
 
@@ -71,11 +72,11 @@ abbrev class_by : List (List Range) → (held : List Bool) → ℕ
 class_by [] held = 0
 class_by (m ∷ ms) held = if same_all (map (is_in m) ranges) held then 0 else suc (class_by ms held)
 
-class-found :
+class_found :
     (ms : List (List Range)) (held : List Bool) → class_by ms held < length ms →
     map (is_in (get_or ms (class_by ms held) [])) ranges ≡ held
-class-found [] held h = absurd (omega arith)
-class-found (m ∷ ms) held h = go (same_all (map (is_in m) ranges) held) refl h (class-found ms held)
+class_found [] held h = absurd (omega arith)
+class_found (m ∷ ms) held h = go (same_all (map (is_in m) ranges) held) refl h (class_found ms held)
   where
     go : (b : Bool) → same_all (map (is_in m) ranges) held ≡ b → (if b then 0 else suc (class_by ms held)) < suc (length ms) →
         (class_by ms held < length ms → map (is_in (get_or ms (class_by ms held) [])) ranges ≡ held) →
@@ -105,7 +106,7 @@ means : (byte : ℕ) → byte < 256 → (r : Range) → Memᴰ r ranges → hold
 unfolding held_by
 means byte h r m =
     let e = entry byte h in
-    let found = class-found meanings (held_by byte) (rw e.0 at e.1) in
+    let found = class_found meanings (held_by byte) (rw e.0 at e.1) in
     rw e.0 (sym (each_same (is_in (get_or meanings (class_by meanings (held_by byte)) [])) (λ s. holds s byte) ranges found r m))
 
 all_used : all_below 13 (has classes) ≡ true
@@ -132,6 +133,7 @@ EndBelow number [] = Unit {0}
 EndBelow number (range low high ∷ rs) = (high < number) × EndBelow number rs
 
 none_holds : (number : ℕ) (rs : List Range) → EndBelow number rs → (r : Range) → Memᴰ r rs → holds r number ≡ false
+none_holds number [] h r m = elim m [ ]
 none_holds number (range low high ∷ rs) h r (Memᴰ.head is) = rw is (simp (lt-leb number high h.0, and-false))
 none_holds number (range low high ∷ rs) h r (Memᴰ.tail m) = none_holds number rs h.1 r m
 

@@ -11,7 +11,7 @@ use borrow.Author.Tests.{le-leb}
 use lib.Bits.{bit_and, and_block, and_high}
 use lib.ListN.{length, take, drop, get_or, drop_of_length-le}
 use lib.Seq.{drop-cons}
-use Rattle.rules.specs.Bytes.{little_endian, part, word}
+use Rattle.rules.specs.Bytes.{little_endian, word}
 use Rattle.rules.specs.Text as Rules
 use Rattle.rules.specs.Text.{forms, led, leads, Text, follows, utf8, is_text, is_utf8}
 use Rattle.words.specs.Bits.{all_bits}
@@ -37,15 +37,15 @@ next_lead text at inside = rw (add-one, drop-cons text at 0)
 pub nothing_passed : (text : List ℕ) (at : ℕ) → at ≤ length text → Passes text at at
 nothing_passed text at within = record { onward = omega arith; within = within; alike = refl }
 
-pub both-passed :
+pub both_passed :
     {text : List ℕ} {from middle next : ℕ} → Passes text from middle → Passes text middle next → Passes text from next
-both-passed p q = record { onward = omega arith; within = q.within; alike = p.alike ∙ q.alike }
+both_passed p q = record { onward = omega arith; within = q.within; alike = p.alike ∙ q.alike }
 
 -- An ASCII byte is a sequence by itself.
-pub byte-passed :
+pub byte_passed :
     {text : List ℕ} {from at : ℕ} → Passes text from at → at < length text → get_or text at 0 < 0x80 →
     Passes text from (at + 1)
-byte-passed {text} {from} {at} p inside ascii =
+byte_passed {text} {from} {at} p inside ascii =
     let alone : leads forms (get_or text at 0) ≡ led [] = simp (le-leb 0 (get_or text at 0) (omega arith), le-leb (get_or text at 0) 0x7F (omega arith)) in
     record {
       onward = omega arith;
@@ -63,7 +63,7 @@ module _
     first_passed (suc count) within =
         let number = part_none_above text at end count (omega arith) inside in
         let next : at + suc count ≡ at + count + 1 = omega arith in
-        rw next (byte-passed (first_passed count (omega arith)) (omega arith) (omega arith))
+        rw next (byte_passed (first_passed count (omega arith)) (omega arith) (omega arith))
 
     pub bits_passed : at ≤ end → Passes text from end
     bits_passed onward =
@@ -82,28 +82,28 @@ low_byte byte small none =
     omega arith
 
 -- a word none of whose bytes has it is ASCII.
-pub word-passed :
+pub word_passed :
     (count : ℕ) {text : List ℕ} {at : ℕ} → ((i : ℕ) → get_or text i 0 < 256) → at + count ≤ length text →
     bit_and (word text at count) (highest count) ≡ 0 → Passes text at (at + count)
 unfolding word little_endian
-word-passed zero {text} {at} octets inside none = rw add-zero (nothing_passed text at (omega arith))
-word-passed (suc count) {text} {at} octets inside none =
+word_passed zero {text} {at} octets inside none = rw add-zero (nothing_passed text at (omega arith))
+word_passed (suc count) {text} {at} octets inside none =
     let byte = get_or text at 0 in
     let later = word text (suc at) count in
     let split : word text at (suc count) ≡ later * 2 ^ 8 + byte = ap little_endian (part_cons text at count (omega arith)) ∙ omega arith in
     let parts =
     sym (and_block 8 later (highest count) byte 0x80 (octets at) (omega arith)) ∙ ap (λ (w : ℕ). bit_and w (highest (suc count))) (sym split) ∙ none in
-    let here = byte-passed (nothing_passed text at (omega arith)) (omega arith) (low_byte byte (octets at) (omega arith)) in
-    let rest = word-passed count {text = text} {at = suc at} octets (omega arith) (omega arith) in
+    let here = byte_passed (nothing_passed text at (omega arith)) (omega arith) (low_byte byte (octets at) (omega arith)) in
+    let rest = word_passed count {text = text} {at = suc at} octets (omega arith) (omega arith) in
     let sum : suc at + count ≡ at + suc count = omega arith in
-    rw sum at (both-passed (rw add-one at here) rest)
+    rw sum at (both_passed (rw add-one at here) rest)
 
 -- Two runs, one after the other.
-pub both-ascii :
+pub both_ascii :
     {text : List ℕ} {from middle middle' next : ℕ} (first second : Bool) → (first ≡ true → Passes text from middle) →
     (second ≡ true → Passes text middle' next) → middle ≡ middle' → first && second ≡ true → Passes text from next
-both-ascii true second p q meet test = both-passed (rw meet at (p refl)) (q test)
-both-ascii false second p q meet test = absurd (false≢true test)
+both_ascii true second p q meet test = both_passed (rw meet at (p refl)) (q test)
+both_ascii false second p q meet test = absurd (false≢true test)
 
 -- ---- the whole text
 

@@ -1,5 +1,6 @@
 -- Laws of the machine that goes over text by classes: 13 classes in 9 states, by one test.
 -- Assumes nothing.
+use Rattle.std.specs.Prelude.{if◌then◌else◌}
 use mathlib.Core.Path.{◌≡◌, refl, sym, ◌∙◌, ap}
 use mathlib.Core.Bool.{Bool, true, false, ◌&&◌, ◌||◌, false≢true}
 use mathlib.Core.List.Memᴰ
@@ -11,7 +12,6 @@ use borrow.Author.Tests.{ltb-true, eqb-true, eqb-false, eq-eqb, ne_eqb}
 use lib.Dec.{eqb, ltb}
 use lib.ListN.{length, drop, get_or, drop_of_length-le}
 use lib.Seq.{drop-cons}
-use Rattle.rules.specs.Refusals.{if◌then◌else◌}
 use Rattle.rules.specs.Text.{Range, range, holds, Form, form, forms, Led, led, not_a_lead, leads, broken, is_text, follows}
 use Rattle.rules.proofs.Tests.{both}
 use Rattle.text.specs.Sequences.{text_from, Passes}
@@ -133,11 +133,11 @@ steps_right : all_below 13 (λ class. all_below 9 (λ state. step_right class st
 unfolding step_right due_of step_of steps
 steps_right = refl
 
-step_right :
+step_right_lem :
     (class state word : ℕ) → class < 13 → state < 9 → word % 64 ≡ 6 * state →
     Stands (get_or steps class 0 / 2 ^ (word % 64)) (due_of class state)
 unfolding step_right step_of
-step_right class state word h k is =
+step_right_lem class state word h k is =
     let next = step_of class state / 6 in
     let at = below 9 (λ s. step_right class s) (below 13 (λ c. all_below 9 (λ s. step_right c s)) steps_right class h) state k in
     let first = both (same_led (due_of class state) (due_in next)) (eqb (step_of class state) (6 * next) && ltb next 9) at in
@@ -156,7 +156,7 @@ steps_to word byte small due s =
     let class = class_of byte in
     let known = (state_right_lem s.state s.known).0 in
     let agree = due_agree (λ r. holds r byte) (λ r. holds_class r class) (due_in s.state) known (classes_right.means byte small) in
-    rw (due_by_lem byte due, s.means, agree) (step_right class s.state word (classes_right.known byte small) s.known s.is)
+    rw (due_by_lem byte due, s.means, agree) (step_right_lem class s.state word (classes_right.known byte small) s.known s.is)
 
 -- and one number on, by a byte that the same ranges hold.
 pub alike_steps : {number byte word next : ℕ} → Alike number byte → StepsTo word byte next → StepsTo word number next
@@ -246,10 +246,10 @@ begun p is = record {
   alike = p.alike;
 }
 
-pub stepped-on :
+pub stepped_on :
     {text : List ℕ} {from at word next : ℕ} → Reached text from at word → at < length text → StepsTo word (get_or text at 0) next →
     Reached text from (at + 1) next
-stepped-on r inside steps = record { start = _; there = stepped r.there inside steps }
+stepped_on r inside steps = record { start = _; there = stepped r.there inside steps }
 
 pub reached : {text : List ℕ} {from at word : ℕ} → Passes text from at → word % 64 ≡ 0 → Reached text from at word
 reached p is = record { start = _; there = begun p is }

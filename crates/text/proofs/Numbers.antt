@@ -21,5 +21,7 @@ text_numbers_lem Valid = refl
 text_numbers_lem (Broken start) = refl
 
 -- Both clauses of a promise follow from its first.
-pub judged : (bytes : List ℕ) (r : Text) → text_of r ≡ utf8 bytes → (text_of r ≡ utf8 bytes) × (text_numbers r ≡ numbers_of 0 nothing (text_answer bytes))
-judged bytes r is = (is, text_numbers_lem r ∙ ap (numbers_of 0 nothing) (text_answer_lem bytes r is))
+pub judged :
+    (bytes : List ℕ) (r : Text) → text_of r ≡ utf8 bytes →
+    record { answer : text_of r ≡ utf8 bytes; numbers : text_numbers r ≡ numbers_of 0 nothing (text_answer bytes) }
+judged bytes r is = record { answer = is; numbers = text_numbers_lem r ∙ ap (numbers_of 0 nothing) (text_answer_lem bytes r is) }

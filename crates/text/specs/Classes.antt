@@ -1,9 +1,8 @@
 -- W-202: the classes of bytes. "what each class means is shown once for all 256 entries against the byte ranges of RFC 3629's grammar,
 -- and two bytes share a class exactly when each of these ranges, single bytes too, holds both or neither."
 -- Assumes nothing.
-use Rattle.std.specs.Prelude.{◌≡◌, Bool, true, false, ◌&&◌, ◌||◌, ℕ, ◌<◌, eqb, length, get_or}
+use Rattle.std.specs.Prelude.{◌≡◌, Bool, true, false, ◌&&◌, ◌||◌, ℕ, ◌<◌, eqb, length, get_or, if◌then◌else◌}
 use mathlib.Core.List.{List, [], ◌∷◌, ◌++◌, Memᴰ}
-use Rattle.rules.specs.Refusals.{if◌then◌else◌}
 use Rattle.rules.specs.Text.{Range, range, tail, holds, Form, form, forms}
 
 -- ---- the ranges of the grammar, as the rules have it

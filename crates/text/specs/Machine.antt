@@ -1,7 +1,6 @@
 -- The machine that goes over text by the classes of its bytes: its states, and how far it has come.
 -- Assumes nothing.
-use Rattle.std.specs.Prelude.{◌≡◌, List, [], ◌∷◌, ℕ, ◌+◌, ◌*◌, ◌%◌, ◌≤◌, ◌<◌, length, drop, get_or}
-use Rattle.rules.specs.Refusals.{if◌then◌else◌}
+use Rattle.std.specs.Prelude.{◌≡◌, List, [], ◌∷◌, ℕ, ◌+◌, ◌*◌, ◌%◌, ◌≤◌, ◌<◌, length, drop, get_or, if◌then◌else◌}
 use Rattle.rules.specs.Text.{holds, forms, Led, led, not_a_lead, leads, follows}
 use Rattle.text.specs.Classes.{following}
 use Rattle.text.specs.Sequences.{text_from}

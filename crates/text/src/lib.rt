@@ -1,5 +1,7 @@
 // Text: is a part of a message UTF-8, by RFC 3629's byte ranges, and where is it not (13; the writer's 26). Each byte is judged by
 // its class (W-202).
+#![tactic(auto)]
+
 ghost use Rattle.std.specs.Prelude.{◌≡◌, ◌≤◌, length};
 ghost use Rattle.rules.specs.Bytes.{part};
 ghost use Rattle.rules.specs.Text.{utf8, is_text, is_utf8};
@@ -16,7 +18,7 @@ mod states;
 mod tables;
 
 // What bytes are: text; or not, and then where the first sequence starts that is not allowed.
-#[derive(Drop)]
+#[derive(Clone, Copy)]
 pub enum Text {
     Valid,
     Broken(usize),

@@ -1,6 +1,5 @@
 // The machine that goes over text: what is due next is a state, and the class of a byte leads from one to the next.
-ghost use Rattle.std.specs.Prelude.{◌≡◌, true, ℕ, ◌+◌, ◌%◌, ◌≤◌, eqb, length};
-ghost use Rattle.rules.specs.Refusals.{if◌then◌else◌};
+ghost use Rattle.std.specs.Prelude.{◌≡◌, true, ℕ, ◌+◌, ◌%◌, ◌≤◌, eqb, length, if◌then◌else◌};
 ghost use Rattle.rules.specs.Text.{is_text};
 ghost use Rattle.text.specs.Answers.{text_of};
 ghost use Rattle.text.specs.Sequences.{text_from, Passes};

@@ -1,2 +1,4 @@
 // The walk's upper layer: the functions that call each other.
+#![tactic(auto)]
+
 pub mod cycle;

@@ -1,11 +1,11 @@
 -- How the rules' results go together: what came before, what follows, and tests.
 -- Assumes nothing.
+use Rattle.std.specs.Prelude.{if◌then◌else◌}
 use mathlib.Core.Path.{◌≡◌, refl}
 use mathlib.Core.Bool.{Bool, true, false}
 use mathlib.Core.List.{List, [], ◌++◌, append_assoc, append-nil}
 use Prim.Native.Nat.{ℕ}
 use Rattle.rules.specs.declared.Fault.{Fault}
-use Rattle.rules.specs.Refusals.{if◌then◌else◌}
 use Rattle.rules.specs.Trace.{Event}
 use Rattle.rules.specs.Decode as D
 use Rattle.rules.specs.Decode.{Decoded, went, stopped}

@@ -1,10 +1,9 @@
 -- Strict enums and strict bits: one value, and what is left of a run of them.
 -- Assumes nothing.
-use mathlib.Core.Bool.{Bool, true, false, not}
+use mathlib.Core.Bool.{Bool, true, false}
 use mathlib.Core.List.{List}
 use mathlib.Core.Path.{◌≡◌, refl, sym}
 use Prim.Native.Nat.{ℕ, ◌+◌, ◌-◌, ◌*◌, ◌<◌}
-use borrow.Author.Tests.{not-true, not-false}
 use lib.ListN.{set}
 use Rattle.rules.specs.declared.Place.TheVariants.{Byte}
 use Rattle.rules.specs.Refusals.{fault, strict_value_unknown}
@@ -51,12 +50,12 @@ module _ {rows entries : List ℕ} {row : ℕ} (sound : StrictRow rows entries r
   -- In a run of them.
   module _ {grow at left : ℕ} {whole : Message → Decoder} {v : List ℕ} {c : Cursor} {v' : List ℕ} {d : Cursor}
       (run : RunLeft (reading_any bytes) (a_in rows row) (λ i. strict_at rows entries row) grow at whole v c v' d 0 left place) (more : 0 < left) where
-    pub strict_stopped : {r : Walked} → not test ≡ true → r ≡ Refused (fault strict_value_unknown (Byte place)) → DidAsked bytes v v' grow at c r whole
-    strict_stopped e z = rw z (run_stopped run more (refused_one (not-true test e)) refl)
+    pub strict_stopped : {r : Walked} → test ≡ false → r ≡ Refused (fault strict_value_unknown (Byte place)) → DidAsked bytes v v' grow at c r whole
+    strict_stopped e z = rw z (run_stopped run more (refused_one e) refl)
 
-    pub strict_next : {v'' : List ℕ} {e : Cursor} → not test ≡ false → v'' ≡ set v' d.values x → e ≡ gave_one d
+    pub strict_next : {v'' : List ℕ} {e : Cursor} → test ≡ true → v'' ≡ set v' d.values x → e ≡ gave_one d
         → RunLeft (reading_any bytes) (a_in rows row) (λ i. strict_at rows entries row) grow at whole v c v'' e 0 (left - 1) (place + width)
-    strict_next e s g = run_next run more (given_one (not-false test e) s g) (sym w) refl
+    strict_next e s g = run_next run more (given_one e s g) (sym w) refl
 
 -- A value by itself is a run of one.
 pub strict_alone : (rows entries bytes : List ℕ) (row : ℕ) {at : ℕ} {v v' : List ℕ} {c : Cursor} {r : Walked}

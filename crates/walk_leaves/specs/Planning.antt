@@ -1,7 +1,6 @@
 -- What the functions of planned.rt promise.
 -- Assumes nothing.
-use Rattle.std.specs.Prelude.{List, ℕ, eqb, length}
-use Rattle.rules.specs.Refusals.{if◌then◌else◌}
+use Rattle.std.specs.Prelude.{List, ℕ, eqb, length, if◌then◌else◌}
 use Rattle.rules.specs.TypeTable.{TypeTable}
 use Rattle.rules.specs.Sizes.{Field}
 use Rattle.rules.specs.Decode.{Message, Decoder}

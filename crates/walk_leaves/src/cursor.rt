@@ -6,7 +6,7 @@ ghost use Rattle.walk_leaves.specs.Doing.{gave_one};
 use rules::{Fault, Place};
 
 // The next free byte, the handles used, and how many value numbers and object numbers were given so far.
-#[derive(Drop)]
+#[derive(Clone, Copy)]
 pub struct Cursor {
     pub next: usize,
     pub handles: usize,
@@ -15,7 +15,7 @@ pub struct Cursor {
 }
 
 // A part of the walk went on, or was refused.
-#[derive(Drop)]
+#[derive(Clone, Copy)]
 pub enum Walked {
     On(Cursor),
     Refused(Fault),

@@ -1,4 +1,6 @@
 // The walk's lowest layer: the cursor, claims, and values that lead to nothing else.
+#![tactic(auto)]
+
 pub mod claims;
 pub mod cursor;
 pub mod planned;

@@ -25,7 +25,7 @@ use Rattle.walk_leaves.specs.Doing.{message, gave_one}
 use Rattle.walk_records.specs.Opening.{box_at}
 use Rattle.walk_records.specs.Promises.{DeeperOpens, BoxOpens}
 use Rattle.walk_leaves.proofs.Steps.{did_stop, did_one}
-use Rattle.walk_records.proofs.Openings.{record-got, record-wrong, deeper_anywhere, ask_gave, opens_put}
+use Rattle.walk_records.proofs.Openings.{record_got, record_wrong, deeper_anywhere, ask_gave, opens_put}
 
 module _ (m : Message) (at : ℕ) {says : ℕ} (said : says ≡ word m.bytes at 8) where
   box_absent : says ≡ 0 → read_presence m 8 ones64 true at ≡ got 0
@@ -44,11 +44,11 @@ module _ (bytes : List ℕ) (depth : ℕ) (values objects : List ℕ) (at : ℕ)
   pub box_closed : {values' : List ℕ} {d : Cursor} → says ≡ 0 → values' ≡ set values c.values 0 → d ≡ gave_one c
       → BoxOpens bytes depth values values' objects objects at c element size (Closed d)
   box_closed h e g t handles sized ask =
-      rw (e, g, record-got 8 _ _ at c.next c.handles (box_absent (message t bytes handles) at said h)) (did_one 0 (omega arith) ask.free ask.held)
+      rw (e, g, record_got 8 _ _ at c.next c.handles (box_absent (message t bytes handles) at said h)) (did_one 0 (omega arith) ask.free ask.held)
 
   pub box_refused : {f : Fault} → (says ≡ 0 → ⊥) → (says ≡ ones64 → ⊥) → f ≡ fault presence_wrong (Byte at)
       → BoxOpens bytes depth values values objects objects at c element size (Refused f)
-  box_refused h k e t handles sized ask = rw (e, record-wrong 8 _ _ at c.next c.handles (box_wrong (message t bytes handles) at said h k)) did_stop
+  box_refused h k e t handles sized ask = rw (e, record_wrong 8 _ _ at c.next c.handles (box_wrong (message t bytes handles) at said h k)) did_stop
 
   box_whole : (t : TypeTable) (handles : ℕ) → size_of t element ≡ size → says ≡ ones64
       → box_at (message t bytes handles) depth element at c.next c.handles
@@ -56,7 +56,7 @@ module _ (bytes : List ℕ) (depth : ℕ) (values objects : List ℕ) (at : ℕ)
       (λ deep below. D.claim (message t bytes handles) boxed_object element size (deep element)) at c.next c.handles)
   box_whole t handles sized h =
       let m = message t bytes handles in
-      record-got 8 _ _ at c.next c.handles (box_present m at said h)
+      record_got 8 _ _ at c.next c.handles (box_present m at said h)
       ∙ rw (sized, deeper_anywhere m boxed_object element size (W.levels m depth) at (λ deep below. deep element) (at + 8) at)
 
   pub box_opened : {values' : List ℕ} (objects' : List ℕ) {d : Cursor} (r : Opened) → says ≡ ones64 → values' ≡ set values c.values 1 → d ≡ gave_one c

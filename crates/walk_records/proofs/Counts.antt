@@ -34,7 +34,7 @@ use Rattle.walk_leaves.specs.Doing.{message, gave_one, Ask}
 use Rattle.walk_records.specs.Opening.{count_of, HasCount, after_count, counted_at}
 use Rattle.walk_records.specs.Promises.{CountAt, DeeperOpens, CountedOpens, VectorOpens}
 use Rattle.walk_leaves.proofs.Steps.{did_stop, did_one}
-use Rattle.walk_records.proofs.Openings.{record-got, record-wrong, record_same, deeper_anywhere, ask_gave, opens_put, opens_same}
+use Rattle.walk_records.proofs.Openings.{record_got, record_wrong, record_same, deeper_anywhere, ask_gave, opens_put, opens_same}
 
 -- ---- the record, of which `count` and `says` were loaded
 
@@ -103,10 +103,10 @@ module _ (bytes : List ℕ) (depth : ℕ) (values objects : List ℕ) (at : ℕ)
   pub counted_closed : {values' : List ℕ} {d : Cursor} → k ≡ Absent → values' ≡ set values c.values 0 → d ≡ gave_one c
       → CountedOpens bytes depth values values' objects objects at c row size largest optional (Closed d)
   counted_closed is e g t handles fields ask =
-      rw (e, g, record-got 16 _ _ at c.next c.handles (read t handles is)) (did_one 0 (omega arith) ask.free ask.held)
+      rw (e, g, record_got 16 _ _ at c.next c.handles (read t handles is)) (did_one 0 (omega arith) ask.free ask.held)
 
   pub counted_refused : {f : Fault} → k ≡ Wrong f → CountedOpens bytes depth values values objects objects at c row size largest optional (Refused f)
-  counted_refused is t handles fields ask = rw (record-wrong 16 _ _ at c.next c.handles (read t handles is)) did_stop
+  counted_refused is t handles fields ask = rw (record_wrong 16 _ _ at c.next c.handles (read t handles is)) did_stop
 
   counted_whole : (count : ℕ) (t : TypeTable) (handles : ℕ) (fields : (count : ℕ) → (ℕ → Decoder) → D.Deeper → Decoder) → k ≡ Present count
       → counted_at (message t bytes handles) depth row size largest (eqb optional 1) fields at c.next c.handles
@@ -114,7 +114,7 @@ module _ (bytes : List ℕ) (depth : ℕ) (values objects : List ℕ) (at : ℕ)
       (λ deep below. D.claim (message t bytes handles) vector_object row (count * size) (fields count deep below)) at c.next c.handles)
   counted_whole count t handles fields is =
       let m = message t bytes handles in
-      record-got 16 _ _ at c.next c.handles (read t handles is)
+      record_got 16 _ _ at c.next c.handles (read t handles is)
       ∙ rw (add-one, deeper_anywhere m vector_object row (count * size) (W.levels m depth) at (fields count) (at + 16) at)
 
   pub counted_opened : (count : ℕ) {values' : List ℕ} (objects' : List ℕ) {d : Cursor} (r : Opened) → k ≡ Present count → values' ≡ set values c.values (count + 1) → d ≡ gave_one c

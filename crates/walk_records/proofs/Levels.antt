@@ -32,9 +32,9 @@ levels_down m zero n = absurd (n refl)
 levels_down m (suc depth) n = let e : suc depth - 1 ≡ depth = omega arith in rw e (level m depth)
 
 -- 5: at the record or envelope that would go deeper.
-pub too_deep_lem : {total handles g : ℕ} {v o : List ℕ} {c : Cursor} {r : Walked} (m : Message) (depth record-at at n u : ℕ) (k : (ℕ → Decoder) → D.Deeper → Decoder)
-    → depth ≡ 0 → r ≡ Refused (fault too_deep (Byte record-at)) → Did total handles g v v o o c r (D.one_deeper (W.levels m depth) record-at k at n u)
-too_deep_lem m depth record-at at n u k e y = rw (levels_spent m depth e, y) did_stop
+pub too_deep_lem : {total handles g : ℕ} {v o : List ℕ} {c : Cursor} {r : Walked} (m : Message) (depth record_at at n u : ℕ) (k : (ℕ → Decoder) → D.Deeper → Decoder)
+    → depth ≡ 0 → r ≡ Refused (fault too_deep (Byte record_at)) → Did total handles g v v o o c r (D.one_deeper (W.levels m depth) record_at k at n u)
+too_deep_lem m depth record_at at n u k e y = rw (levels_spent m depth e, y) did_stop
 
 -- Where an object is open, a level is left.
 pub level_left : (depth : ℕ) (r : Opened) {x : Opening} → Reaches depth r → r ≡ Open x → 0 < depth

@@ -33,16 +33,16 @@ use Rattle.walk_leaves.proofs.Steps.{did_stop, did_put, did_then, did_halt}
 
 -- ---- records
 
-module _ (size : ℕ) (read : ℕ → ReadRecord) (continue : (record-at value : ℕ) → Decoder) (at n u : ℕ) where
-  pub record-got : {v : ℕ} → read at ≡ got v → D.record_then size read continue at n u ≡ D.after (v ∷ []) [] (continue at v (at + size) n u)
+module _ (size : ℕ) (read : ℕ → ReadRecord) (continue : (record_at value : ℕ) → Decoder) (at n u : ℕ) where
+  pub record_got : {v : ℕ} → read at ≡ got v → D.record_then size read continue at n u ≡ D.after (v ∷ []) [] (continue at v (at + size) n u)
   unfolding D.record_then
-  record-got e = rw e
+  record_got e = rw e
 
-  pub record-wrong : {f : Fault} → read at ≡ wrong f → D.record_then size read continue at n u ≡ stopped f [] []
+  pub record_wrong : {f : Fault} → read at ≡ wrong f → D.record_then size read continue at n u ≡ stopped f [] []
   unfolding D.record_then
-  record-wrong e = rw e
+  record_wrong e = rw e
 
-  pub record_same : (other : (record-at value : ℕ) → Decoder) → ((v : ℕ) → continue at v (at + size) n u ≡ other at v (at + size) n u)
+  pub record_same : (other : (record_at value : ℕ) → Decoder) → ((v : ℕ) → continue at v (at + size) n u ≡ other at v (at + size) n u)
       → D.record_then size read continue at n u ≡ D.record_then size read other at n u
   unfolding D.record_then
   record_same other e = go (read at)
@@ -62,11 +62,11 @@ module _ (m : Message) (kind row size : ℕ) where
       rw k
 
   -- A claim stands at no place in line.
-  pub deeper_anywhere : (below : D.Deeper) (record-at : ℕ) (fields : (ℕ → Decoder) → D.Deeper → Decoder) (p q n u : ℕ)
-      → D.one_deeper below record-at (λ rows b. D.claim m kind row size (fields rows b)) p n u ≡ D.one_deeper below record-at (λ rows b. D.claim m kind row size (fields rows b)) q n u
+  pub deeper_anywhere : (below : D.Deeper) (record_at : ℕ) (fields : (ℕ → Decoder) → D.Deeper → Decoder) (p q n u : ℕ)
+      → D.one_deeper below record_at (λ rows b. D.claim m kind row size (fields rows b)) p n u ≡ D.one_deeper below record_at (λ rows b. D.claim m kind row size (fields rows b)) q n u
   unfolding D.claim
-  deeper_anywhere D.spent record-at fields p q n u = refl
-  deeper_anywhere (D.deeper rows b) record-at fields p q n u = refl
+  deeper_anywhere D.spent record_at fields p q n u = refl
+  deeper_anywhere (D.deeper rows b) record_at fields p q n u = refl
 
 -- ---- one level down, and a claim there
 

@@ -75,11 +75,11 @@ module _ (t : TypeTable) (bytes values objects : List ℕ) (handles size at next
 -- ---- the envelope
 
 -- What follows a payload may as well follow its claim.
-deeper_followed : (m : Message) (kind row size payload : ℕ) (k : ℕ → ℕ → Decoded) (below : D.Deeper) (record-at at n u : ℕ)
-    → D.and_then (D.one_deeper below record-at (λ F b. D.claim m kind row size (F payload)) at n u) k
-    ≡ D.one_deeper below record-at (λ F b. D.claim m kind row size (λ at' n' u'. D.and_then (F payload at' n' u') k)) at n u
-deeper_followed m kind row size payload k D.spent record-at at n u = refl
-deeper_followed m kind row size payload k (D.deeper F b) record-at at n u = sym (claim_followed m kind row size (F payload) k at n u)
+deeper_followed : (m : Message) (kind row size payload : ℕ) (k : ℕ → ℕ → Decoded) (below : D.Deeper) (record_at at n u : ℕ)
+    → D.and_then (D.one_deeper below record_at (λ F b. D.claim m kind row size (F payload)) at n u) k
+    ≡ D.one_deeper below record_at (λ F b. D.claim m kind row size (λ at' n' u'. D.and_then (F payload at' n' u') k)) at n u
+deeper_followed m kind row size payload k D.spent record_at at n u = refl
+deeper_followed m kind row size payload k (D.deeper F b) record_at at n u = sym (claim_followed m kind row size (F payload) k at n u)
 
 module _ (m : Message) (below : D.Deeper) (row payload : ℕ) {size : ℕ} (at n u : ℕ) (e : size_of m.table payload ≡ size) where
   known_in_line : size ≤ 4

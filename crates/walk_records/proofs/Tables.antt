@@ -33,7 +33,7 @@ use Rattle.walk_records.specs.Promises.{DeeperOpens, EnvelopesOpen, TableOpens}
 use Rattle.walk_leaves.proofs.Steps.{did_stop}
 use Rattle.walk_records.proofs.Levels.{levels_down}
 use Rattle.walk_records.proofs.Zeros.{zero_word, nonzero_word}
-use Rattle.walk_records.proofs.Openings.{record-got, record-wrong, claim_over, deeper_anywhere, deeper_spent, deeper_ask, ask_gave, opens_put, opens_same}
+use Rattle.walk_records.proofs.Openings.{record_got, record_wrong, claim_over, deeper_anywhere, deeper_spent, deeper_ask, ask_gave, opens_put, opens_same}
 
 -- ---- the record
 
@@ -130,12 +130,12 @@ module _ (bytes : List ℕ) (depth : ℕ) (values objects : List ℕ) (at : ℕ)
     (counted : count ≡ word bytes at 8) (said : says ≡ word bytes (at + 8) 8) where
   pub table_absent : {f : Fault} → says ≡ 0 → f ≡ fault required_absent (Byte at) → TableOpens bytes depth values values objects objects at c row (Refused f)
   table_absent p e t handles content edition ask =
-      rw (e, record-wrong 16 _ _ at c.next c.handles (read_absent (message t bytes handles) at counted said p)) did_stop
+      rw (e, record_wrong 16 _ _ at c.next c.handles (read_absent (message t bytes handles) at counted said p)) did_stop
 
   pub table_neither : {f : Fault} → (says ≡ 0 → ⊥) → (says ≡ ones64 → ⊥) → f ≡ fault presence_wrong (Byte at)
       → TableOpens bytes depth values values objects objects at c row (Refused f)
   table_neither p q e t handles content edition ask =
-      rw (e, record-wrong 16 _ _ at c.next c.handles (read_neither (message t bytes handles) at counted said p q)) did_stop
+      rw (e, record_wrong 16 _ _ at c.next c.handles (read_neither (message t bytes handles) at counted said p q)) did_stop
 
   table_whole : (t : TypeTable) (handles : ℕ) (content : ℕ → Content) → t.edition ≡ eight_byte_envelopes → says ≡ ones64
       → table_at (message t bytes handles) depth row content at c.next c.handles
@@ -145,7 +145,7 @@ module _ (bytes : List ℕ) (depth : ℕ) (values objects : List ℕ) (at : ℕ)
   unfolding envelopes_in
   table_whole t handles content edition is =
       let m = message t bytes handles in
-      record-got 16 _ _ at c.next c.handles (read_present m at counted said is)
+      record_got 16 _ _ at c.next c.handles (read_present m at counted said is)
       ∙ rw (envelope_size_lem edition, content_read edition, deeper_anywhere m envelopes_object row (count * 8) (W.levels m depth) at (λ F b. D.last_present m 8 count (envelopes_in m row content count b)) (at + 16) at)
 
   pub table_opened : {values' : List ℕ} (objects' : List ℕ) {d : Cursor} (r : Opened) → says ≡ ones64 → values' ≡ set values c.values count → d ≡ gave_one c

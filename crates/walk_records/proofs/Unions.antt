@@ -1,18 +1,19 @@
 -- A union's ordinal, and what it leads to.
 -- Assumes nothing.
+use Rattle.std.specs.Prelude.{if◌then◌else◌}
 use mathlib.Core.Path.{◌≡◌, refl, sym, ◌∙◌}
-use mathlib.Core.Bool.{Bool, true, false, not, ◌||◌}
+use mathlib.Core.Bool.{Bool, true, false, ◌||◌}
 use mathlib.Core.List.{List, [], ◌∷◌}
 use Prim.Native.Nat.{ℕ, zero, suc, ◌+◌, ◌/◌, ◌%◌, ◌≤◌, ◌<◌}
 use native.Mathlib.Omega.{arith}
 use mir.Syntax.{w8}
 use mir.Val.{Fits}
-use borrow.Author.Tests.{eq-eqb, ne_eqb, leb-true, leb-false, not-true, not-false}
+use borrow.Author.Tests.{eq-eqb, ne_eqb, leb-true, leb-false}
 use lib.Dec.{leb, eqb}
 use lib.ListN.{length, get_or}
 use Rattle.rules.specs.declared.Fault.{Fault}
 use Rattle.rules.specs.declared.Place.TheVariants.{Byte}
-use Rattle.rules.specs.Refusals.{if◌then◌else◌, fault, required_absent, absent_not_zero, ordinal_unknown, present_envelope_zero}
+use Rattle.rules.specs.Refusals.{fault, required_absent, absent_not_zero, ordinal_unknown, present_envelope_zero}
 use Rattle.rules.specs.Bytes.{word}
 use Rattle.rules.specs.TypeTable.{TypeTable, eight_byte_envelopes, Content, content_of}
 use Rattle.rules.specs.Decode as D
@@ -107,16 +108,16 @@ module _ (t : TypeTable) (bytes values objects : List ℕ) (handles depth row fi
       present t bytes handles depth row at c.next c.handles (content_of t first count) (eqb (form % 2) 1) (eqb (form / 2) 1) ordinal edition n (sym e)
       ∙ rw (← w, ← k, accepts form known small)
 
-  pub union_unknown : {f : Fault} → not (leb 2 form || known) ≡ true → f ≡ fault ordinal_unknown (Byte at)
+  pub union_unknown : {f : Fault} → leb 2 form || known ≡ false → f ≡ fault ordinal_unknown (Byte at)
       → Did (length bytes) handles 16 values values objects objects c (Refused f) (union_of t bytes handles depth row first count form at c)
-  union_unknown a y = rw (kept, not-true (leb 2 form || known) a, y) did_stop
+  union_unknown a y = rw (kept, a, y) did_stop
 
-  module _ {values' : List ℕ} {d : Cursor} {envelope : ℕ} (a : not (leb 2 form || known) ≡ false) (q : envelope ≡ word bytes (at + 8) 8) (g : Gave values values' c d ordinal) where
+  module _ {values' : List ℕ} {d : Cursor} {envelope : ℕ} (a : leb 2 form || known ≡ true) (q : envelope ≡ word bytes (at + 8) 8) (g : Gave values values' c d ordinal) where
     pub union_empty : {f : Fault} → ((i : ℕ) → Fits w8 (get_or bytes i 0)) → envelope ≡ 0 → f ≡ fault present_envelope_zero (Byte (at + 8))
         → Did (length bytes) handles 16 values values' objects objects c (Refused f) (union_of t bytes handles depth row first count form at c)
     unfolding D.present_envelope
     union_empty b z y =
-        rw (kept, not-false (leb 2 form || known) a, zero_word bytes (at + 8) 8 (omega arith) (sym q ∙ z), y)
+        rw (kept, a, zero_word bytes (at + 8) 8 (omega arith) (sym q ∙ z), y)
         (did_gave {g = 15} 16 ordinal (λ n u. stopped (fault present_envelope_zero (Byte (at + 8))) [] []) g did_stop (omega arith))
 
     pub union_member : (envelope ≡ 0 → ⊥)
@@ -124,7 +125,7 @@ module _ (t : TypeTable) (bytes values objects : List ℕ) (handles depth row fi
         (λ what e. content_of_eight_bytes (message t bytes handles) (W.levels (message t bytes handles) depth) row (ordinal_is what) (at + 8) e.next e.handles) (Some what d)
     unfolding D.present_envelope
     union_member z =
-        rw (kept, not-false (leb 2 form || known) a, nonzero_word bytes (at + 8) 8 (omega arith) (λ w. z (q ∙ w)))
+        rw (kept, a, nonzero_word bytes (at + 8) 8 (omega arith) (λ w. z (q ∙ w)))
         (cc, cc, cc, cc, λ v o r p. did_gave 16 ordinal (λ n u. content_of_eight_bytes (message t bytes handles) (W.levels (message t bytes handles) depth) row (ordinal_is what) (at + 8) n u) g p (omega arith))
 
 pub member_is : (members : List ℕ) (first count ordinal loaded : ℕ) (what : Ordinal) → ordinal ≡ loaded → first + count ≤ 1024 → Rising members first count

@@ -1,8 +1,8 @@
 -- Records that lead to an object: what was done, and what is left to do.
 -- Assumes nothing.
-use Rattle.std.specs.Prelude.{Bool, true, List, [], ◌≡◌, ℕ, zero, suc, ◌+◌, ◌-◌, ◌*◌, ◌/◌, ◌<◌, leb, eqb}
+use Rattle.std.specs.Prelude.{Bool, true, List, [], ◌≡◌, ℕ, zero, suc, ◌+◌, ◌-◌, ◌*◌, ◌/◌, ◌<◌, leb, eqb, if◌then◌else◌}
 use Rattle.rules.specs.declared.Place.TheVariants.{Byte}
-use Rattle.rules.specs.Refusals.{if◌then◌else◌, fault, byte_number_wrong, handle_number_wrong}
+use Rattle.rules.specs.Refusals.{fault, byte_number_wrong, handle_number_wrong}
 use Rattle.rules.specs.Bytes.{ones64}
 use Rattle.rules.specs.Trace.{vector_object, unknown_content, unknown_object}
 use Rattle.rules.specs.TypeTable.{Content}

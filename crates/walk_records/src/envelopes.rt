@@ -15,7 +15,7 @@ use walk_leaves::cursor::{Cursor, Walked, fault_at, gave, refused};
 use walk_leaves::scalars::numbers;
 
 // What a union's ordinal says: no member, one whose envelope follows, or a refusal.
-#[derive(Drop)]
+#[derive(Clone, Copy)]
 pub enum Member {
     None(Cursor),
     Some(Ordinal, Cursor),

@@ -13,7 +13,7 @@ use walk_leaves::cursor::{Cursor, Walked, fault_at, gave, refused};
 use walk_leaves::scalars::numbers;
 
 // What a vector's or string's record says.
-#[derive(Drop)]
+#[derive(Clone, Copy)]
 pub enum Count {
     Absent,
     Present(usize),
@@ -21,14 +21,14 @@ pub enum Count {
 }
 
 // An object that is claimed and not walked yet: how many elements, where it starts, and the cursor after the claim.
-#[derive(Drop)]
+#[derive(Clone, Copy)]
 pub struct Opening {
     pub count: usize,
     pub start: usize,
     pub cursor: Cursor,
 }
 
-#[derive(Drop)]
+#[derive(Clone, Copy)]
 pub enum Opened {
     Closed(Cursor),
     Open(Opening),

@@ -1,5 +1,7 @@
 // Reads and stores of bytes, numbers and little-endian words, for any list and any place: what lies past the end reads
 // as 0, and a store past the end is left out. No function requires anything of its caller.
+#![tactic(auto)]
+
 ghost use Rattle.std.specs.Prelude.{◌≡◌, ◌+◌, ◌%◌, ◌^◌, ◌≤◌, length, nat_le, slice_index, slice_set};
 ghost use Rattle.std.proofs.lemmas.List.Edits.{sets};
 ghost use Rattle.rules.specs.Bytes.{word, bytes_of, part, pattern32, signed32, leading_zeros, round_up, padded};

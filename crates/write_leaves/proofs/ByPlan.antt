@@ -11,7 +11,7 @@ use lib.Dec.{ltb}
 use lib.ListN.{length, get_or}
 use lib.Seq.{sets}
 use Rattle.rules.specs.declared.Place.TheVariants.{Index}
-use Rattle.rules.specs.Refusals.{fault, not_aValue}
+use Rattle.rules.specs.Refusals.{fault, not_a_value}
 use Rattle.rules.specs.Bytes.{bytes_of, zeros}
 use Rattle.rules.specs.Sizes.{Field}
 use Rattle.rules.specs.Encode as E
@@ -28,7 +28,7 @@ use Rattle.write_leaves.specs.declared.cursor.Wrote.TheVariants.{On, Refused}
 use Rattle.write_leaves.specs.Putting.{PutsInLine, took_one, Stands}
 use Rattle.write_leaves.specs.InLine.{bool_as}
 use Rattle.write_leaves.specs.Planning.{width_as, parts_as, PutAsked}
-use Rattle.write_leaves.proofs.InLine.{record-ended, record-unfit, record-put, took_stands, nothing_put}
+use Rattle.write_leaves.proofs.InLine.{record_ended, record_unfit, record_put, took_stands, nothing_put}
 use Rattle.write_leaves.proofs.Filling.{fill_put}
 use Rattle.write_leaves.proofs.Leading.{ask_stands}
 use Rattle.write_leaves.proofs.Writing.{writing_any}
@@ -44,17 +44,17 @@ module _ (values out : List ℕ) (width at : ℕ) (c : Cursor) where
   part_bool e p = rw e p
 
   module _ (other : width ≡ 0 → ⊥) (s : Stands values c) where
-    pub part_ended : {r : Wrote} → length values ≤ c.index → r ≡ Refused (fault not_aValue (Index c.index)) → PutsInLine values out out (width_size width) at c r (width_as width)
+    pub part_ended : {r : Wrote} → length values ≤ c.index → r ≡ Refused (fault not_a_value (Index c.index)) → PutsInLine values out out (width_size width) at c r (width_as width)
     unfolding encode_word
-    part_ended h e = rw (ne_eqb width 0 other, e) (record-ended (write_number width any_pattern) (λ v. E.nothing) s.left h)
+    part_ended h e = rw (ne_eqb width 0 other, e) (record_ended (write_number width any_pattern) (λ v. E.nothing) s.left h)
 
     module _ {v most : ℕ} (h : c.index < length values) (read : v ≡ get_or values c.index 0) (m : most + 1 ≡ 256 ^ width) where
-      pub part_large : {r : Wrote} → most < v → r ≡ Refused (fault not_aValue (Index c.index)) → PutsInLine values out out (width_size width) at c r (width_as width)
+      pub part_large : {r : Wrote} → most < v → r ≡ Refused (fault not_a_value (Index c.index)) → PutsInLine values out out (width_size width) at c r (width_as width)
       unfolding encode_word write_number
       part_large k e =
           let large : ltb v (256 ^ width) ≡ false = le-ltb v (256 ^ width) (omega (arith, m)) in
           let written : write_number width any_pattern v ≡ unfit = rw large in
-          rw (ne_eqb width 0 other, e) (record-unfit (write_number width any_pattern) (λ v. E.nothing) v h read written)
+          rw (ne_eqb width 0 other, e) (record_unfit (write_number width any_pattern) (λ v. E.nothing) v h read written)
 
       pub part_put : {out' : List ℕ} {d : Cursor} → v ≤ most → out' ≡ sets out at (bytes_of width v) → d ≡ took_one c → PutsInLine values out out' (width_size width) at c (On d) (width_as width)
       unfolding encode_word write_number
@@ -62,7 +62,7 @@ module _ (values out : List ℕ) (width at : ℕ) (c : Cursor) where
           let small : ltb v (256 ^ width) ≡ true = lt-ltb v (256 ^ width) (omega (arith, m)) in
           let written : write_number width any_pattern v ≡ put (bytes_of width v) = rw small in
           rw (ne_eqb width 0 other, e)
-          (record-put (write_number width any_pattern) (λ v. E.nothing) v h read (bytes_of width v) written (length_bytes_of width v) stored (nothing_put (took_stands s h)))
+          (record_put (write_number width any_pattern) (λ v. E.nothing) v h read (bytes_of width v) written (length_bytes_of width v) stored (nothing_put (took_stands s h)))
 
 -- ---- the parts of a value, and a run of values
 

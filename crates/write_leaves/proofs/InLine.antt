@@ -14,7 +14,7 @@ use lib.Dec.{eqb, leb, ltb}
 use lib.ListN.{length, set, take, drop, get_or, length-append, length-drop, drop_of_length-le}
 use lib.Seq.{sets, drop-cons}
 use Rattle.rules.specs.declared.Place.TheVariants.{Index}
-use Rattle.rules.specs.Refusals.{fault, too_many_handles, not_aValue}
+use Rattle.rules.specs.Refusals.{fault, too_many_handles, not_a_value}
 use Rattle.rules.specs.Bytes.{bytes_of, ones32}
 use Rattle.rules.specs.TypeTable.{TypeTable}
 use Rattle.rules.specs.Encode as E
@@ -32,7 +32,7 @@ use Rattle.write_leaves.specs.declared.cursor.Wrote.TheVariants.{On, Refused}
 use Rattle.write_leaves.specs.Putting.{KeptBefore, answer, Stored, Fit, Put, PutsInLine, took_one, Stands, HandlesTaken}
 use Rattle.write_leaves.specs.InLine.{bool_as, handle_as, numbers_as, NoneAbove}
 use Rattle.write_leaves.proofs.Kept.{kept_all, kept_sets, kept_then}
-use Rattle.write_leaves.proofs.Results.{after_none, after_after, then_nothing}
+use Rattle.write_leaves.proofs.Results.{after_none, after_after}
 
 -- ---- parts that are done at once
 
@@ -97,14 +97,14 @@ module _ (count : ℕ) (c : Cursor) where
 -- ---- records of one number
 
 module _ (write : ℕ → WriteRecord) (continue : ℕ → Encoder) (values : List ℕ) (i next used : ℕ) where
-  record-short : length values ≤ i → E.record_then write continue (drop i values) next used ≡ cannot not_aValue 0
+  record_short : length values ≤ i → E.record_then write continue (drop i values) next used ≡ cannot not_a_value 0
   unfolding E.record_then
-  record-short h = rw (drop_of_length-le values h)
+  record_short h = rw (drop_of_length-le values h)
 
-  pub record-at : i < length values → E.record_then write continue (drop i values) next used
+  pub record_at : i < length values → E.record_then write continue (drop i values) next used
       ≡ E.record_goes (write (get_or values i 0)) (suc (length (drop (i + 1) values))) (continue (get_or values i 0) (drop (i + 1) values) next used)
   unfolding E.record_then
-  record-at h = rw (add-one, drop-cons values i 0 h)
+  record_at h = rw (add-one, drop-cons values i 0 h)
 
 -- A record, and what it leads to, which writes nothing more in line, and nothing before the record.
 pub after_put : {values out out' out'' : List ℕ} {size at there base : ℕ} {c : Cursor} {r : Wrote} {e : Encoded} (bytes : List ℕ) → length bytes ≡ size → out' ≡ sets out at bytes
@@ -129,20 +129,20 @@ after_put {values} {out} {out'} {out''} {size} {at} {there} {base} {c} {r} {e} b
     go (cannot number left) a s f = record { says = a; stored = kept_then there later (kept_sets at bytes (omega arith) stored) s; fit = tt }
 
 module _ {values out : List ℕ} {size at : ℕ} {c : Cursor} (write : ℕ → WriteRecord) (continue : ℕ → Encoder) where
-  pub record-ended : c.index ≤ length values → length values ≤ c.index
-      → PutsInLine values out out size at c (Refused (fault not_aValue (Index c.index))) (E.record_then write continue)
-  record-ended s h base = rw (record-short write continue values c.index c.next c.handles h) (put_cannot not_aValue 0 c.index (omega arith))
+  pub record_ended : c.index ≤ length values → length values ≤ c.index
+      → PutsInLine values out out size at c (Refused (fault not_a_value (Index c.index))) (E.record_then write continue)
+  record_ended s h base = rw (record_short write continue values c.index c.next c.handles h) (put_cannot not_a_value 0 c.index (omega arith))
 
   module _ (v : ℕ) (h : c.index < length values) (read : v ≡ get_or values c.index 0) where
-    pub record-unfit : write v ≡ unfit → PutsInLine values out out size at c (Refused (fault not_aValue (Index c.index))) (E.record_then write continue)
-    record-unfit w base =
-        rw (record-at write continue values c.index c.next c.handles h, ← read, w)
-        (put_cannot not_aValue (suc (length (drop (c.index + 1) values))) c.index (omega (arith, length-drop (c.index + 1) values)))
+    pub record_unfit : write v ≡ unfit → PutsInLine values out out size at c (Refused (fault not_a_value (Index c.index))) (E.record_then write continue)
+    record_unfit w base =
+        rw (record_at write continue values c.index c.next c.handles h, ← read, w)
+        (put_cannot not_a_value (suc (length (drop (c.index + 1) values))) c.index (omega (arith, length-drop (c.index + 1) values)))
 
-    pub record-put : {out' : List ℕ} {r : Wrote} (bytes : List ℕ) → write v ≡ put bytes → length bytes ≡ size → out' ≡ sets out at bytes → PutsInLine values out' out' 0 at (took_one c) r (continue v)
+    pub record_put : {out' : List ℕ} {r : Wrote} (bytes : List ℕ) → write v ≡ put bytes → length bytes ≡ size → out' ≡ sets out at bytes → PutsInLine values out' out' 0 at (took_one c) r (continue v)
         → PutsInLine values out out' size at c r (E.record_then write continue)
-    record-put bytes w whole stored p base =
-        rw (record-at write continue values c.index c.next c.handles h, ← read, w) (after_put bytes whole stored (p base) (omega arith))
+    record_put bytes w whole stored p base =
+        rw (record_at write continue values c.index c.next c.handles h, ← read, w) (after_put bytes whole stored (p base) (omega arith))
 
 pub took_stands : {values : List ℕ} {c : Cursor} → Stands values c → c.index < length values → Stands values (took_one c)
 took_stands s h = record { free = s.free; held = s.held; left = omega arith }
@@ -157,14 +157,14 @@ module _ (values : List ℕ) (c d : Cursor) (s : Stands values c) (e : d ≡ too
 -- ---- bools
 
 module _ (values out : List ℕ) (at : ℕ) (c : Cursor) (s : Stands values c) where
-  pub bool_ended : {r : Wrote} → length values ≤ c.index → r ≡ Refused (fault not_aValue (Index c.index)) → PutsInLine values out out 1 at c r bool_as
+  pub bool_ended : {r : Wrote} → length values ≤ c.index → r ≡ Refused (fault not_a_value (Index c.index)) → PutsInLine values out out 1 at c r bool_as
   unfolding bool_as
-  bool_ended h e = rw e (record-ended (write_number 1 bool_pattern) (λ v. E.nothing) s.left h)
+  bool_ended h e = rw e (record_ended (write_number 1 bool_pattern) (λ v. E.nothing) s.left h)
 
   module _ {v : ℕ} (h : c.index < length values) (read : v ≡ get_or values c.index 0) where
-    pub bool_large : {r : Wrote} → 1 < v → r ≡ Refused (fault not_aValue (Index c.index)) → PutsInLine values out out 1 at c r bool_as
+    pub bool_large : {r : Wrote} → 1 < v → r ≡ Refused (fault not_a_value (Index c.index)) → PutsInLine values out out 1 at c r bool_as
     unfolding bool_as write_number
-    bool_large k e = rw e (record-unfit (write_number 1 bool_pattern) (λ v. E.nothing) v h read (either (ltb v 256) refl))
+    bool_large k e = rw e (record_unfit (write_number 1 bool_pattern) (λ v. E.nothing) v h read (either (ltb v 256) refl))
       where
         either : (b : Bool) → ltb v 256 ≡ b → write_number 1 bool_pattern v ≡ unfit
         either true q = let t : leb v 1 ≡ false = lt-leb v 1 k in rw (q, t)
@@ -173,7 +173,7 @@ module _ (values out : List ℕ) (at : ℕ) (c : Cursor) (s : Stands values c) w
     pub bool_put : {out' : List ℕ} {d : Cursor} → v ≤ 1 → out' ≡ sets out at (bytes_of 1 v) → d ≡ took_one c → PutsInLine values out out' 1 at c (On d) bool_as
     unfolding bool_as write_number
     bool_put k stored e =
-        rw e (record-put (write_number 1 bool_pattern) (λ v. E.nothing) v h read (bytes_of 1 v) written (length_bytes_of 1 v) stored (nothing_put (took_stands s h)))
+        rw e (record_put (write_number 1 bool_pattern) (λ v. E.nothing) v h read (bytes_of 1 v) written (length_bytes_of 1 v) stored (nothing_put (took_stands s h)))
       where
         written : write_number 1 bool_pattern v ≡ put (bytes_of 1 v)
         written =
@@ -184,25 +184,25 @@ module _ (values out : List ℕ) (at : ℕ) (c : Cursor) (s : Stands values c) w
 -- ---- a handle
 
 module _ (values out : List ℕ) (optional at : ℕ) (c : Cursor) (s : Stands values c) where
-  pub handle_ended : {r : Wrote} → length values ≤ c.index → r ≡ Refused (fault not_aValue (Index c.index))
+  pub handle_ended : {r : Wrote} → length values ≤ c.index → r ≡ Refused (fault not_a_value (Index c.index))
       → (t : TypeTable) → PutsInLine values out out 4 at c r (handle_as t (eqb optional 1))
   unfolding handle_as
-  handle_ended h e t = rw e (record-ended (write_presence 4 ones32 (eqb optional 1)) (R.after_handle t) s.left h)
+  handle_ended h e t = rw e (record_ended (write_presence 4 ones32 (eqb optional 1)) (R.after_handle t) s.left h)
 
   module _ {v : ℕ} (h : c.index < length values) (read : v ≡ get_or values c.index 0) where
-    pub handle_large : {r : Wrote} → 1 < v → r ≡ Refused (fault not_aValue (Index c.index)) → (t : TypeTable) → PutsInLine values out out 4 at c r (handle_as t (eqb optional 1))
+    pub handle_large : {r : Wrote} → 1 < v → r ≡ Refused (fault not_a_value (Index c.index)) → (t : TypeTable) → PutsInLine values out out 4 at c r (handle_as t (eqb optional 1))
     unfolding handle_as write_presence
-    handle_large k e t = rw e (record-unfit (write_presence 4 ones32 (eqb optional 1)) (R.after_handle t) v h read (large v k))
+    handle_large k e t = rw e (record_unfit (write_presence 4 ones32 (eqb optional 1)) (R.after_handle t) v h read (large v k))
       where
         large : (v : ℕ) → 1 < v → write_presence 4 ones32 (eqb optional 1) v ≡ unfit
         large zero k = absurd (omega arith)
         large (suc zero) k = absurd (omega arith)
         large (suc (suc v)) k = refl
 
-    pub handle_required : {r : Wrote} → v ≡ 0 → (optional ≡ 1 → ⊥) → r ≡ Refused (fault not_aValue (Index c.index))
+    pub handle_required : {r : Wrote} → v ≡ 0 → (optional ≡ 1 → ⊥) → r ≡ Refused (fault not_a_value (Index c.index))
         → (t : TypeTable) → PutsInLine values out out 4 at c r (handle_as t (eqb optional 1))
     unfolding handle_as write_presence
-    handle_required z o e t = rw e (record-unfit (write_presence 4 ones32 (eqb optional 1)) (R.after_handle t) v h read written)
+    handle_required z o e t = rw e (record_unfit (write_presence 4 ones32 (eqb optional 1)) (R.after_handle t) v h read written)
       where
         written : write_presence 4 ones32 (eqb optional 1) v ≡ unfit
         written = rw (z, ne_eqb optional 1 o)
@@ -211,7 +211,7 @@ module _ (values out : List ℕ) (optional at : ℕ) (c : Cursor) (s : Stands va
         → (t : TypeTable) → PutsInLine values out out' 4 at c (On d) (handle_as t (eqb optional 1))
     unfolding handle_as write_presence
     handle_absent z o stored e t =
-        rw e (record-put (write_presence 4 ones32 (eqb optional 1)) (R.after_handle t) 0 h (sym z ∙ read) (bytes_of 4 0) written (length_bytes_of 4 0) stored (nothing_put (took_stands s h)))
+        rw e (record_put (write_presence 4 ones32 (eqb optional 1)) (R.after_handle t) 0 h (sym z ∙ read) (bytes_of 4 0) written (length_bytes_of 4 0) stored (nothing_put (took_stands s h)))
       where
         written : write_presence 4 ones32 (eqb optional 1) 0 ≡ put (bytes_of 4 0)
         written = rw o
@@ -222,7 +222,7 @@ module _ (values out : List ℕ) (optional at : ℕ) (c : Cursor) (s : Stands va
     handle_taken {out'} k z stored e p t =
         let one : v ≡ 1 = below_two v k z in
         let q : HandlesTaken 1 (took_one c) _ = rw e at p in
-        record-put (write_presence 4 ones32 (eqb optional 1)) (R.after_handle t) 1 h (sym one ∙ read) (bytes_of 4 ones32) written (length_bytes_of 4 ones32) stored
+        record_put (write_presence 4 ones32 (eqb optional 1)) (R.after_handle t) 1 h (sym one ∙ read) (bytes_of 4 ones32) written (length_bytes_of 4 ones32) stored
         (λ base. q values out' at base (took_stands s h))
       where
         below_two : (v : ℕ) → v ≤ 1 → (v ≡ 0 → ⊥) → v ≡ 1
@@ -275,40 +275,40 @@ module _ (width : ℕ) where
 -- ---- numbers
 
 module _ (width : ℕ) (values : List ℕ) (i next used : ℕ) where
-  word_short : length values ≤ i → encode_word width (drop i values) next used ≡ cannot not_aValue 0
+  word_short : length values ≤ i → encode_word width (drop i values) next used ≡ cannot not_a_value 0
   unfolding encode_word
-  word_short h = record-short (write_number width any_pattern) (λ v. E.nothing) values i next used h
+  word_short h = record_short (write_number width any_pattern) (λ v. E.nothing) values i next used h
 
   module _ (v : ℕ) (h : i < length values) (read : v ≡ get_or values i 0) where
-    word_large : 256 ^ width ≤ v → encode_word width (drop i values) next used ≡ cannot not_aValue (suc (length (drop (i + 1) values)))
+    word_large : 256 ^ width ≤ v → encode_word width (drop i values) next used ≡ cannot not_a_value (suc (length (drop (i + 1) values)))
     unfolding encode_word write_number
     word_large k =
         let t : ltb v (256 ^ width) ≡ false = le-ltb v (256 ^ width) k in
-        record-at (write_number width any_pattern) (λ v. E.nothing) values i next used h ∙ rw (← read, t)
+        record_at (write_number width any_pattern) (λ v. E.nothing) values i next used h ∙ rw (← read, t)
 
     word_at : v < 256 ^ width → encode_word width (drop i values) next used ≡ wrote (bytes_of width v) [] next used (drop (i + 1) values)
     unfolding encode_word write_number
     word_at k =
         let t : ltb v (256 ^ width) ≡ true = lt-ltb v (256 ^ width) k in
-        record-at (write_number width any_pattern) (λ v. E.nothing) values i next used h ∙ rw (← read, t, append-nil)
+        record_at (write_number width any_pattern) (λ v. E.nothing) values i next used h ∙ rw (← read, t, append-nil)
 
 module _ (values out : List ℕ) (width at : ℕ) (c : Cursor) (s : Stands values c) where
-  pub number_ended : {r : Wrote} → length values ≤ c.index → r ≡ Refused (fault not_aValue (Index c.index)) → PutsInLine values out out width at c r (encode_word width)
+  pub number_ended : {r : Wrote} → length values ≤ c.index → r ≡ Refused (fault not_a_value (Index c.index)) → PutsInLine values out out width at c r (encode_word width)
   unfolding encode_word
-  number_ended h e = rw e (record-ended (write_number width any_pattern) (λ v. E.nothing) s.left h)
+  number_ended h e = rw e (record_ended (write_number width any_pattern) (λ v. E.nothing) s.left h)
 
   module _ {v : ℕ} (most : ℕ) (l : most + 1 ≡ 256 ^ width) (h : c.index < length values) (read : v ≡ get_or values c.index 0) where
-    pub number_large : {r : Wrote} → most < v → r ≡ Refused (fault not_aValue (Index c.index)) → PutsInLine values out out width at c r (encode_word width)
+    pub number_large : {r : Wrote} → most < v → r ≡ Refused (fault not_a_value (Index c.index)) → PutsInLine values out out width at c r (encode_word width)
     unfolding encode_word write_number
     number_large k e =
         let t : ltb v (256 ^ width) ≡ false = le-ltb v (256 ^ width) (omega arith) in
-        rw e (record-unfit (write_number width any_pattern) (λ v. E.nothing) v h read (rw t))
+        rw e (record_unfit (write_number width any_pattern) (λ v. E.nothing) v h read (rw t))
 
     pub number_put : {out' : List ℕ} {d : Cursor} → v ≤ most → out' ≡ sets out at (bytes_of width v) → d ≡ took_one c → PutsInLine values out out' width at c (On d) (encode_word width)
     unfolding encode_word write_number
     number_put k stored e =
         let t : ltb v (256 ^ width) ≡ true = lt-ltb v (256 ^ width) (omega arith) in
-        rw e (record-put (write_number width any_pattern) (λ v. E.nothing) v h read (bytes_of width v) (rw t) (length_bytes_of width v) stored (nothing_put (took_stands s h)))
+        rw e (record_put (write_number width any_pattern) (λ v. E.nothing) v h read (bytes_of width v) (rw t) (length_bytes_of width v) stored (nothing_put (took_stands s h)))
 
 -- ---- runs of numbers
 
@@ -383,17 +383,17 @@ module _ (values before : List ℕ) (width count at : ℕ) (c : Cursor) (out : L
         from : (n m : ℕ) → n ≡ suc m → E.after run.bytes [] (words width i n (drop (c.index + i) values) c.next c.handles) ≡ cannot number left
         from n m f = rw (f, e)
 
-    pub run_ended : {r : Wrote} → length values ≤ c.index + i → r ≡ Refused (fault not_aValue (Index (c.index + i)))
+    pub run_ended : {r : Wrote} → length values ≤ c.index + i → r ≡ Refused (fault not_a_value (Index (c.index + i)))
         → PutsInLine values before out (count * width) at c r (numbers_as width count)
-    run_ended h e base = rw (e, halted not_aValue 0 (word_short width values (c.index + i) c.next c.handles h)) (put_refused not_aValue 0 (c.index + i) (omega (arith, run.reached)) kept)
+    run_ended h e base = rw (e, halted not_a_value 0 (word_short width values (c.index + i) c.next c.handles h)) (put_refused not_a_value 0 (c.index + i) (omega (arith, run.reached)) kept)
 
     module _ {v : ℕ} (h : c.index + i < length values) (read : v ≡ get_or values (c.index + i) 0) where
-      pub run_large : (most : ℕ) {r : Wrote} → most + 1 ≡ 256 ^ width → most < v → r ≡ Refused (fault not_aValue (Index (c.index + i)))
+      pub run_large : (most : ℕ) {r : Wrote} → most + 1 ≡ 256 ^ width → most < v → r ≡ Refused (fault not_a_value (Index (c.index + i)))
           → PutsInLine values before out (count * width) at c r (numbers_as width count)
       run_large most l k e base =
           let g : 256 ^ width ≤ v = omega arith in
-          rw (e, halted not_aValue (suc (length (drop (c.index + i + 1) values))) (word_large width values (c.index + i) c.next c.handles v h read g))
-          (put_refused not_aValue (suc (length (drop (c.index + i + 1) values))) (c.index + i) (omega (arith, length-drop (c.index + i + 1) values)) kept)
+          rw (e, halted not_a_value (suc (length (drop (c.index + i + 1) values))) (word_large width values (c.index + i) c.next c.handles v h read g))
+          (put_refused not_a_value (suc (length (drop (c.index + i + 1) values))) (c.index + i) (omega (arith, length-drop (c.index + i + 1) values)) kept)
 
       pub run_more : (most : ℕ) {out' : List ℕ} → most + 1 ≡ 256 ^ width → v ≤ most → out' ≡ sets out p (bytes_of width v) → Run values before width count at c out' (i + 1) (p + width)
       unfolding E.elements E.sequence

@@ -1,16 +1,17 @@
 -- Strict enums and strict bits: one value, and what is left of a run of them.
 -- Assumes nothing.
-use mathlib.Core.Bool.{Bool, true, false, not, ◌&&◌}
+use Rattle.std.specs.Prelude.{if◌then◌else◌}
+use mathlib.Core.Bool.{Bool, true, false, ◌&&◌}
 use mathlib.Core.List.{List}
 use mathlib.Core.Path.{◌≡◌, refl, sym}
 use Prim.Native.Nat.{ℕ, ◌+◌, ◌-◌, ◌*◌, ◌^◌, ◌≤◌, ◌<◌}
 use native.Mathlib.Omega.{arith}
-use borrow.Author.Tests.{not-true, not-false, lt-ltb, le-ltb, leb-true, leb-false}
+use borrow.Author.Tests.{lt-ltb, le-ltb, leb-true, leb-false}
 use lib.Dec.{leb, ltb}
 use lib.ListN.{length, get_or}
 use lib.Seq.{sets}
 use Rattle.rules.specs.declared.Place.TheVariants.{Index}
-use Rattle.rules.specs.Refusals.{if◌then◌else◌, fault, not_aValue, strict_value_unknown}
+use Rattle.rules.specs.Refusals.{fault, not_a_value, strict_value_unknown}
 use Rattle.rules.specs.Bytes.{bytes_of}
 use Rattle.rules.specs.TypeTable.{kind_in, a_in, b_in, c_in}
 use Rattle.rules.specs.Encode as E
@@ -27,7 +28,7 @@ use Rattle.write_leaves.specs.declared.cursor.Wrote.TheVariants.{Refused}
 use Rattle.write_leaves.specs.Putting.{took_one}
 use Rattle.write_leaves.specs.InLine.{strict_as}
 use Rattle.write_leaves.specs.Planning.{PutAsked}
-use Rattle.write_leaves.proofs.InLine.{record-ended, record-unfit, record-put, took_stands, nothing_put}
+use Rattle.write_leaves.proofs.InLine.{record_ended, record_unfit, record_put, took_stands, nothing_put}
 use Rattle.write_leaves.proofs.Leading.{ask_stands}
 use Rattle.write_leaves.proofs.Writing.{writing_any}
 
@@ -37,8 +38,8 @@ StrictLeft rows entries values row count at o c o' d left place =
     RunLeft (writing_any values) (a_in rows row) (λ i. strict_as rows entries row) (count * a_in rows row) at (E.elements (λ i. strict_as rows entries row) 0 count) o c o' d 0 left place
 
 -- A number that is within the largest of its width, and allowed.
-pub strict_small : (most width v : ℕ) (test : Bool) → most + 1 ≡ 256 ^ width → not (leb v most && test) ≡ false → v < 256 ^ width
-strict_small most width v test m e = omega (arith, m, leb-true v most (both _ _ (not-false _ e)).0)
+pub strict_small : (most width v : ℕ) (test : Bool) → most + 1 ≡ 256 ^ width → leb v most && test ≡ true → v < 256 ^ width
+strict_small most width v test m e = omega (arith, m, leb-true v most (both _ _ e).0)
 
 -- By the row's numbers, a number was judged.
 module _ {rows entries : List ℕ} {row : ℕ} (sound : StrictRow rows entries row) {kind width first named : ℕ}
@@ -65,26 +66,26 @@ module _ {rows entries : List ℕ} {row : ℕ} (sound : StrictRow rows entries r
   module _ (values : List ℕ) {grow at left place : ℕ} {whole : Encoder} {o : List ℕ} {c : Cursor} {out : List ℕ} {d : Cursor}
       (run : RunLeft (writing_any values) (a_in rows row) (λ i. strict_as rows entries row) grow at whole o c out d 0 left place) (more : 0 < left)
       (h : d.index < length values) (read : v ≡ get_or values d.index 0) where
-    pub strict_stopped : {r : Wrote} → not (leb v most && test) ≡ true → r ≡ Refused (fault not_aValue (Index d.index)) → PutAsked values o out grow at c r whole
+    pub strict_stopped : {r : Wrote} → leb v most && test ≡ false → r ≡ Refused (fault not_a_value (Index d.index)) → PutAsked values o out grow at c r whole
     unfolding strict_as
     strict_stopped e z =
-        rw z (run_stopped run more (λ base a. record-unfit (write_number (a_in rows row) (strict_pattern rows entries row)) (λ v. E.nothing) v h read (written (not-true _ e)) base) refl)
+        rw z (run_stopped run more (λ base a. record_unfit (write_number (a_in rows row) (strict_pattern rows entries row)) (λ v. E.nothing) v h read (written e) base) refl)
 
-    pub strict_next : {out' : List ℕ} {e : Cursor} → not (leb v most && test) ≡ false → out' ≡ sets out place (bytes_of width v) → e ≡ took_one d
+    pub strict_next : {out' : List ℕ} {e : Cursor} → leb v most && test ≡ true → out' ≡ sets out place (bytes_of width v) → e ≡ took_one d
         → RunLeft (writing_any values) (a_in rows row) (λ i. strict_as rows entries row) grow at whole o c out' e 0 (left - 1) (place + width)
     unfolding strict_as
     strict_next e stored t =
         rw t (run_next run more
-        (λ base a. record-put (write_number (a_in rows row) (strict_pattern rows entries row)) (λ v. E.nothing) v h read (bytes_of (a_in rows row) v) (written (not-false _ e)) (length_bytes_of (a_in rows row) v)
+        (λ base a. record_put (write_number (a_in rows row) (strict_pattern rows entries row)) (λ v. E.nothing) v h read (bytes_of (a_in rows row) v) (written e) (length_bytes_of (a_in rows row) v)
         (rw w at stored) (nothing_put (took_stands (ask_stands a) h)) base) (sym w) refl)
 
 -- The list ended early.
 pub strict_ended : {rows entries : List ℕ} {row : ℕ} → StrictRow rows entries row → (values : List ℕ) {grow at left place : ℕ} {whole : Encoder} {o : List ℕ} {c : Cursor} {out : List ℕ} {d : Cursor} {r : Wrote}
     → RunLeft (writing_any values) (a_in rows row) (λ i. strict_as rows entries row) grow at whole o c out d 0 left place → 0 < left
-    → length values ≤ d.index → r ≡ Refused (fault not_aValue (Index d.index)) → PutAsked values o out grow at c r whole
+    → length values ≤ d.index → r ≡ Refused (fault not_a_value (Index d.index)) → PutAsked values o out grow at c r whole
 unfolding strict_as
 strict_ended {rows} {entries} {row} sound values run more h z =
-    rw z (run_stopped run more (λ base a. record-ended (write_number (a_in rows row) (strict_pattern rows entries row)) (λ v. E.nothing) a.left h base) refl)
+    rw z (run_stopped run more (λ base a. record_ended (write_number (a_in rows row) (strict_pattern rows entries row)) (λ v. E.nothing) a.left h base) refl)
 
 -- A value by itself is a run of one.
 pub strict_alone : (rows entries values : List ℕ) (row : ℕ) {at : ℕ} {out out' : List ℕ} {c : Cursor} {r : Wrote}

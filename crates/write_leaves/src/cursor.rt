@@ -9,7 +9,7 @@ ghost use Rattle.write_leaves.specs.Putting.{took_one, Stands, HandlesTaken};
 use rules::{Fault, Place};
 
 // The next free byte of the message, the handles used, and how many numbers of the value list were taken.
-#[derive(Drop)]
+#[derive(Clone, Copy)]
 pub struct Cursor {
     pub next: usize,
     pub handles: usize,
@@ -17,7 +17,7 @@ pub struct Cursor {
 }
 
 // A part of the value was written, or refused.
-#[derive(Drop)]
+#[derive(Clone, Copy)]
 pub enum Wrote {
     On(Cursor),
     Refused(Fault),

@@ -1,4 +1,6 @@
 // The writer's lowest layer: the cursor, and values that lead to nothing else.
+#![tactic(auto)]
+
 pub mod cursor;
 pub mod planned;
 pub mod scalars;

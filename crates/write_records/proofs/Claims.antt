@@ -1,8 +1,8 @@
 -- An object that was claimed: its bytes in line, its fill, and the objects claimed after it.
 -- Assumes nothing.
 use mathlib.Core.Path.{◌≡◌, refl, sym, ap, ◌∙◌}
-use mathlib.Core.List.{List, [], ◌∷◌, ◌++◌}
-use Prim.Native.Nat.{ℕ, zero, suc, ◌+◌, ◌-◌, ◌≤◌}
+use mathlib.Core.List.{List, ◌++◌}
+use Prim.Native.Nat.{ℕ, zero, suc, ◌+◌, ◌-◌}
 use native.Mathlib.Omega.{arith}
 use lib.ListN.{length, length-append}
 use lib.Seq.{sets}
@@ -13,7 +13,7 @@ use Rattle.rules.proofs.Bytes.{padded_above}
 use Rattle.words.proofs.Stores.{sets_append, sets_comm}
 use Rattle.write_leaves.specs.declared.cursor.Cursor.{Cursor}
 use Rattle.write_leaves.specs.declared.cursor.Wrote.{Wrote}
-use Rattle.write_leaves.specs.Putting.{answer, Stored, Fits, Fit, Put}
+use Rattle.write_leaves.specs.Putting.{answer, Stored, Fit, Put}
 use Rattle.write_records.specs.Opening.{opened}
 use Rattle.write_leaves.proofs.Kept.{kept_sets, kept_then}
 

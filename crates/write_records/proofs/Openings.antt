@@ -25,7 +25,7 @@ use Rattle.write_leaves.specs.Putting.{answer, Stored, Fit, Put, took_one, Stand
 use Rattle.write_records.specs.Opening.{Opens}
 use Rattle.write_records.specs.Promises.{HasCount, Reaches, ClaimOpens, DeeperOpens}
 use Rattle.write_leaves.proofs.Kept.{kept_all, kept_then}
-use Rattle.write_leaves.proofs.InLine.{put_cannot, after_put, record-at}
+use Rattle.write_leaves.proofs.InLine.{put_cannot, after_put, record_at}
 use Rattle.write_records.proofs.Levels.{levels_spent, levels_down}
 
 -- ---- claims
@@ -111,13 +111,13 @@ module _ (values out out' : List ℕ) (size at base : ℕ) (c : Cursor) where
   opens_after bytes whole sizes fields (Refused f) l s p = after_put bytes l s p (omega arith)
   opens_after bytes whole sizes fields (Open x) l s p = (p.0, p.1, p.2, λ out'' r q. after_put bytes l s (p.3 out'' r q) (omega arith))
 
-  pub record-opens : (write : ℕ → WriteRecord) (continue : ℕ → Encoder) (v : ℕ) → c.index < length values → v ≡ get_or values c.index 0
+  pub record_opens : (write : ℕ → WriteRecord) (continue : ℕ → Encoder) (v : ℕ) → c.index < length values → v ≡ get_or values c.index 0
       → (bytes : List ℕ) → write v ≡ put bytes → length bytes ≡ size → out' ≡ sets out at bytes
       → (sizes : Opening → ℕ) (fields : Opening → Encoder) (r : Opened)
       → Opens values out' out' 0 at base (took_one c) (continue v (drop (c.index + 1) values) c.next c.handles) sizes fields r
       → Opens values out out' size at base c (E.record_then write continue (drop c.index values) c.next c.handles) sizes fields r
-  record-opens write continue v h read bytes w l s sizes fields r p =
-      rw (record-at write continue values c.index c.next c.handles h, ← read, w) (opens_after bytes _ sizes fields r l s p)
+  record_opens write continue v h read bytes w l s sizes fields r p =
+      rw (record_at write continue values c.index c.next c.handles h, ← read, w) (opens_after bytes _ sizes fields r l s p)
 
 -- With what is left said by the opening's own count.
 pub opens_same : (values out out' : List ℕ) (inline at base : ℕ) (c : Cursor) (whole : Encoded) (count : ℕ) {sizes sizes' : Opening → ℕ} {fields fields' : Opening → Encoder}

@@ -1,14 +1,14 @@
 -- The stores of an envelope.
 -- Assumes nothing.
 use mathlib.Core.List.{List, ◌++◌}
-use mathlib.Core.Path.{◌≡◌, sym, ap, ◌∙◌}
+use mathlib.Core.Path.{◌≡◌, ap, ◌∙◌}
 use Prim.Native.Nat.{ℕ, ◌+◌, ◌-◌, ◌≤◌, ◌<◌}
 use native.Mathlib.Omega.{arith}
 use borrow.Author.Tests.{le-leb, lt-leb}
-use lib.ListN.{length, length-append}
+use lib.ListN.{length}
 use lib.Seq.{sets}
 use Rattle.rules.specs.Bytes.{bytes_of, zeros}
-use Rattle.rules.specs.Envelope.{in_line, out_of_line, envelope_bytes}
+use Rattle.rules.specs.Envelope.{envelope_bytes}
 use Rattle.words.proofs.Stores.{sets_append, length_bytes_of}
 use Rattle.write_records.specs.Promises.{sealed_out}
 

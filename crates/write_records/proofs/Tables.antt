@@ -13,7 +13,7 @@ use lib.ListN.{length, drop, get_or}
 use lib.Seq.{sets}
 use Rattle.rules.specs.declared.Fault.{Fault}
 use Rattle.rules.specs.declared.Place.TheVariants.{Index}
-use Rattle.rules.specs.Refusals.{fault, message_too_long, too_deep, not_aValue}
+use Rattle.rules.specs.Refusals.{fault, message_too_long, too_deep, not_a_value}
 use Rattle.rules.specs.Bytes.{bytes_of, ones64}
 use Rattle.rules.specs.TypeTable.{TypeTable, eight_byte_envelopes, Content}
 use Rattle.rules.specs.Encode as E
@@ -30,10 +30,10 @@ use Rattle.write_records.specs.declared.records.Opened.TheVariants.{Refused}
 use Rattle.write_leaves.specs.Putting.{took_one, Stands}
 use Rattle.write_records.specs.Opening.{Opens}
 use Rattle.write_records.specs.Promises.{HasCount, ClaimOpens, TableOpens}
-use Rattle.write_leaves.proofs.InLine.{record-ended}
+use Rattle.write_leaves.proofs.InLine.{record_ended}
 use Rattle.write_records.proofs.Levels.{levels_spent, levels_down}
 use Rattle.write_records.proofs.Counts.{count_stored, count_length}
-use Rattle.write_records.proofs.Openings.{claim_refused, put_last, ask_took, record-opens, opens_same}
+use Rattle.write_records.proofs.Openings.{claim_refused, put_last, ask_took, record_opens, opens_same}
 
 -- A table's envelopes, so many.
 abbrev envelopes : TypeTable → E.Deeper → (ℕ → Content) → (count : ℕ) → Encoder
@@ -52,9 +52,9 @@ module _ (t : TypeTable) (depth : ℕ) (content : ℕ → Content) (v : ℕ) (nu
   after_down edition n = rw (levels_down t depth n, envelope_size_lem edition, content_written edition)
 
 module _ (values out : List ℕ) (depth at : ℕ) (c : Cursor) (s : Stands values c) where
-  pub table_ended : {f : Fault} → length values ≤ c.index → f ≡ fault not_aValue (Index c.index) → TableOpens values out out depth at c (Refused f)
+  pub table_ended : {f : Fault} → length values ≤ c.index → f ≡ fault not_a_value (Index c.index) → TableOpens values out out depth at c (Refused f)
   table_ended h e t content base edition ask =
-      rw e (record-ended write_table (R.after_table t (R.levels t depth) content) s.left h base)
+      rw e (record_ended write_table (R.after_table t (R.levels t depth) content) s.left h base)
 
   module _ {v : ℕ} (h : c.index < length values) (read : v ≡ get_or values c.index 0) (f : Fits w64 v) {half whole : List ℕ} (p : half ≡ sets out at (bytes_of 8 v)) (q : whole ≡ sets half (at + 8) (bytes_of 8 ones64)) where
     table_leads : (t : TypeTable) (content : ℕ → Content) (base : ℕ) (sizes : Opening → ℕ) (fields : Opening → Encoder) (r : Opened)
@@ -63,7 +63,7 @@ module _ (values out : List ℕ) (depth at : ℕ) (c : Cursor) (s : Stands value
         → Opens values out whole 16 at base c
         (E.record_then write_table (R.after_table t (R.levels t depth) content) (drop c.index values) c.next c.handles) sizes fields r
     table_leads t content base sizes fields r opens =
-        record-opens values out whole 16 at base c write_table (R.after_table t (R.levels t depth) content) v h read (count_bytes v ones64) (writes_table v f) (count_length v ones64) (count_stored out at v ones64 p q) sizes fields r opens
+        record_opens values out whole 16 at base c write_table (R.after_table t (R.levels t depth) content) v h read (count_bytes v ones64) (writes_table v f) (count_length v ones64) (count_stored out at v ones64 p q) sizes fields r opens
 
     pub table_spent : {g : Fault} → depth ≡ 0 → g ≡ fault too_deep (Index c.index) → TableOpens values out whole depth at c (Refused g)
     table_spent {g} z e t content base edition ask =

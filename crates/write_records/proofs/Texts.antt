@@ -1,7 +1,7 @@
 -- A string: its bytes are put into the object that its record opened, and then the text is judged.
 -- Assumes nothing.
 use mathlib.Core.Path.{◌≡◌, refl, sym, ap, subst, ◌∙◌}
-use mathlib.Core.Bool.{Bool, true, false, not}
+use mathlib.Core.Bool.{Bool, true, false}
 use mathlib.Core.List.{List, [], ◌∷◌, ◌++◌}
 use Prim.Native.Nat.{ℕ, zero, suc, ◌+◌, ◌-◌, ◌*◌, ◌≤◌, ◌<◌}
 use native.Mathlib.Omega.{arith}
@@ -12,7 +12,7 @@ use lib.ListN.{length, drop, take, length-drop}
 use Rattle.rules.specs.declared.Fault.{Fault}
 use Rattle.rules.specs.declared.Place.{Place}
 use Rattle.rules.specs.declared.Place.TheVariants.{Row, Byte, Index, Amount}
-use Rattle.rules.specs.Refusals.{fault, not_aValue, message_too_long, too_deep}
+use Rattle.rules.specs.Refusals.{fault, not_a_value, message_too_long, too_deep}
 use Rattle.rules.specs.Bytes.{zeros, padded}
 use Rattle.rules.specs.Text.{is_utf8}
 use Rattle.rules.specs.TypeTable.{TypeTable}
@@ -21,7 +21,6 @@ use Rattle.rules.specs.Encode.{Encoded, wrote, cannot, Encoder, WriteRecord, put
 use Rattle.rules.specs.Envelope.{encode_word}
 use Rattle.rules.specs.Records.{write_count}
 use Rattle.rules.specs.Writer as R
-use Rattle.rules.proofs.Bytes.{padded_above}
 use Rattle.layout.specs.Ready.{some_table}
 use Rattle.write_leaves.specs.declared.cursor.Cursor.{Cursor}
 use Rattle.write_leaves.specs.declared.cursor.Wrote.{Wrote}
@@ -81,7 +80,7 @@ module _ {values out out' : List ℕ} (size : ℕ) {base : ℕ} {c : Cursor} whe
     checked_holds (cannot number left) p h = absurd (let z : ◌≡◌ {A = ℕ} 1 0 = ap on_of p.says in omega arith)
 
     checked_fails : (e : Encoded) → Put values out out' 0 (c.next - base) base c (W.On d) (E.as_object size e) → is_utf8 (take (d.index - c.index) (drop c.index values)) ≡ false
-        → Put values out out' 0 (c.next - base) base c (W.Refused (fault not_aValue (Index (length values - suc (length (drop c.index values))))))
+        → Put values out out' 0 (c.next - base) base c (W.Refused (fault not_a_value (Index (length values - suc (length (drop c.index values))))))
         (E.as_object size (E.checked_goes is_utf8 (drop c.index values) e))
     checked_fails (wrote inline outside n u rest) p h =
         let k : is_utf8 (take (length (drop c.index values) - length rest) (drop c.index values)) ≡ false = rw (took_these inline outside n u rest p) at h in
@@ -115,13 +114,13 @@ module _ (total next used mark : ℕ) (below : E.Deeper) (write : ℕ → WriteR
 
   marks_record : (w : WriteRecord) (v : ℕ) (numbers : List ℕ) → W.Refused (fault 0 (Index mark)) ≡ answer total (E.record_goes w (suc (length numbers)) (after_count below 1 marked v numbers next used))
       → mark ≡ total - suc (length numbers)
-  marks_record unfit v numbers e = absurd (let z : ◌≡◌ {A = ℕ} 0 not_aValue = ap number_of e in omega arith)
+  marks_record unfit v numbers e = absurd (let z : ◌≡◌ {A = ℕ} 0 not_a_value = ap number_of e in omega arith)
   marks_record (put bytes) zero numbers e = absurd (let z : ◌≡◌ {A = ℕ} 0 1 = ap number_of e in omega arith)
   marks_record (put bytes) (suc count) numbers e = marks_down below bytes count numbers e
 
   marks : (numbers : List ℕ) → W.Refused (fault 0 (Index mark)) ≡ answer total (E.record_then write (after_count below 1 marked) numbers next used) → mark ≡ total - length numbers
   unfolding E.record_then
-  marks [] e = absurd (let z : ◌≡◌ {A = ℕ} 0 not_aValue = ap number_of e in omega arith)
+  marks [] e = absurd (let z : ◌≡◌ {A = ℕ} 0 not_a_value = ap number_of e in omega arith)
   marks (v ∷ numbers) e = marks_record (write v) v numbers e
 
 -- ---- the string
@@ -192,5 +191,5 @@ module _ (values out half : List ℕ) (depth at base : ℕ) (c : Cursor) (larges
           pub string_put : b ≡ true → StringPuts values out last depth at c base largest optional (W.On d)
           string_put h = close (checked_holds (x.count * 1) run (ran on) (sym test ∙ h))
 
-          pub string_unfit : {w : Wrote} → b ≡ false → w ≡ W.Refused (fault not_aValue (Index c.index)) → StringPuts values out last depth at c base largest optional w
-          string_unfit {w} h e = rw e (subst (λ (k : ℕ). StringPuts values out last depth at c base largest optional (W.Refused (fault not_aValue (Index k)))) judged (close (checked_fails (x.count * 1) run (ran on) (sym test ∙ h))))
+          pub string_unfit : {w : Wrote} → b ≡ false → w ≡ W.Refused (fault not_a_value (Index c.index)) → StringPuts values out last depth at c base largest optional w
+          string_unfit {w} h e = rw e (subst (λ (k : ℕ). StringPuts values out last depth at c base largest optional (W.Refused (fault not_a_value (Index k)))) judged (close (checked_fails (x.count * 1) run (ran on) (sym test ∙ h))))

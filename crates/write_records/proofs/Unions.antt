@@ -1,19 +1,20 @@
 -- A union's number, and what it leads to.
 -- Assumes nothing.
+use Rattle.std.specs.Prelude.{if◌then◌else◌}
 use mathlib.Core.Path.{◌≡◌, refl, sym, ap, ◌∙◌}
-use mathlib.Core.Bool.{Bool, true, false, not, ◌||◌}
-use mathlib.Core.List.{List, [], ◌++◌}
-use Prim.Native.Nat.{ℕ, zero, suc, ◌+◌, ◌-◌, ◌*◌, ◌/◌, ◌%◌, ◌≤◌, ◌<◌}
+use mathlib.Core.Bool.{Bool, true, false, ◌||◌}
+use mathlib.Core.List.{List, ◌++◌}
+use Prim.Native.Nat.{ℕ, zero, suc, ◌+◌, ◌/◌, ◌%◌, ◌≤◌, ◌<◌}
 use native.Mathlib.Omega.{arith}
 use mir.Syntax.{w64}
 use mir.Val.{Fits}
-use borrow.Author.Tests.{eq-eqb, ne_eqb, lt-ltb, leb-true, leb-false, not-true, not-false}
+use borrow.Author.Tests.{eq-eqb, ne_eqb, lt-ltb, leb-true, leb-false}
 use lib.Dec.{leb, ltb, eqb}
-use lib.ListN.{length, drop, get_or}
+use lib.ListN.{length, get_or}
 use lib.Seq.{sets}
 use Rattle.rules.specs.declared.Fault.{Fault}
 use Rattle.rules.specs.declared.Place.TheVariants.{Index}
-use Rattle.rules.specs.Refusals.{if◌then◌else◌, fault, not_aValue, ordinal_unknown}
+use Rattle.rules.specs.Refusals.{fault, not_a_value, ordinal_unknown}
 use Rattle.rules.specs.Bytes.{bytes_of, zeros}
 use Rattle.rules.specs.TypeTable.{TypeTable, Content, content_of}
 use Rattle.rules.specs.Encode as E
@@ -22,17 +23,14 @@ use Rattle.rules.specs.Records.{is_known, unless, write_if, ordinal_pattern, wri
 use Rattle.rules.specs.Envelope.{encode_content, write_content_of_eight_bytes}
 use Rattle.rules.specs.Writer as R
 use Rattle.ordinals.specs.declared.Ordinal.{Ordinal}
-use Rattle.ordinals.specs.Ordinals.{ordinal_is, ContentIs, halved, Rising}
+use Rattle.ordinals.specs.Ordinals.{ordinal_is, ContentIs}
 use Rattle.rules.proofs.Edition.{envelope_size_lem, content_written}
 use Rattle.words.proofs.Stores.{sets_append, length_bytes_of}
 use Rattle.write_leaves.specs.declared.cursor.Cursor.{Cursor}
-use Rattle.write_leaves.specs.declared.cursor.Wrote.{Wrote}
-use Rattle.write_leaves.specs.declared.cursor.Wrote.TheVariants as W
-use Rattle.write_records.specs.declared.envelopes.Member.{Member}
 use Rattle.write_records.specs.declared.envelopes.Member.TheVariants.{None, Some, Bad}
-use Rattle.write_leaves.specs.Putting.{answer, Stored, Fit, Put, Puts, took_one, Stands, Ask}
-use Rattle.write_records.specs.Promises.{OpensMember, UnionOpens, MemberIs}
-use Rattle.write_leaves.proofs.InLine.{put_in_line, record-at, record-ended, record-unfit, took_stands}
+use Rattle.write_leaves.specs.Putting.{Puts, took_one, Stands}
+use Rattle.write_records.specs.Promises.{UnionOpens}
+use Rattle.write_leaves.proofs.InLine.{put_in_line, record_at, record_ended, record_unfit, took_stands}
 use Rattle.write_leaves.proofs.Together.{put_then}
 
 -- What is written of a number.
@@ -40,20 +38,20 @@ abbrev union_record : (content : ℕ → Content) (form : ℕ) → ℕ → Write
 union_record content form = write_number 8 (ordinal_pattern content (eqb (form % 2) 1) (eqb (form / 2) 1))
 
 module _ (members values out : List ℕ) (at : ℕ) (c : Cursor) (first count form : ℕ) (s : Stands values c) where
-  pub union_ended : {f : Fault} → length values ≤ c.index → f ≡ fault not_aValue (Index c.index) → UnionOpens members values out out at c first count form (Bad f)
+  pub union_ended : {f : Fault} → length values ≤ c.index → f ≡ fault not_a_value (Index c.index) → UnionOpens members values out out at c first count form (Bad f)
   union_ended h e t depth base edition same ask =
-      rw e (record-ended (union_record (content_of t first count) form) (R.after_union t (R.levels t depth) (content_of t first count)) s.left h base)
+      rw e (record_ended (union_record (content_of t first count) form) (R.after_union t (R.levels t depth) (content_of t first count)) s.left h base)
 
   module _ {v : ℕ} (h : c.index < length values) (read : v ≡ get_or values c.index 0) where
-    unfit_bad : {f : Fault} → ((t : TypeTable) → t.members ≡ members → union_record (content_of t first count) form v ≡ unfit) → f ≡ fault not_aValue (Index c.index)
+    unfit_bad : {f : Fault} → ((t : TypeTable) → t.members ≡ members → union_record (content_of t first count) form v ≡ unfit) → f ≡ fault not_a_value (Index c.index)
         → UnionOpens members values out out at c first count form (Bad f)
     unfit_bad w e t depth base edition same ask =
-        rw e (record-unfit (union_record (content_of t first count) form) (R.after_union t (R.levels t depth) (content_of t first count)) v h read (w t same) base)
+        rw e (record_unfit (union_record (content_of t first count) form) (R.after_union t (R.levels t depth) (content_of t first count)) v h read (w t same) base)
 
     -- ---- without a member
 
     module _ (z : v ≡ 0) where
-      pub union_required : {f : Fault} → form % 2 ≡ 0 → f ≡ fault not_aValue (Index c.index) → UnionOpens members values out out at c first count form (Bad f)
+      pub union_required : {f : Fault} → form % 2 ≡ 0 → f ≡ fault not_a_value (Index c.index) → UnionOpens members values out out at c first count form (Bad f)
       unfolding write_number
       union_required o e = unfit_bad (λ t same. rw (z, ne_eqb (form % 2) 1 (λ q. omega arith))) e
 
@@ -64,7 +62,7 @@ module _ (members values out : List ℕ) (at : ℕ) (c : Cursor) (first count fo
           let number : 0 ≡ get_or values c.index 0 = sym z ∙ read in
           let place : at + length (bytes_of 8 0) ≡ at + 8 = ap (λ (n : ℕ). at + n) (length_bytes_of 8 0) in
           let stored : whole ≡ sets out at (bytes_of 8 0 ++ zeros 8) = q ∙ rw (p, ← place) (sets_append out at (bytes_of 8 0) (zeros 8)) in
-          rw (e, record-at (union_record (content_of t first count) form) (R.after_union t (R.levels t depth) (content_of t first count)) values c.index c.next c.handles h, ← number, eq-eqb (form % 2) 1 (omega (arith, o)), envelope_size_lem edition)
+          rw (e, record_at (union_record (content_of t first count) form) (R.after_union t (R.levels t depth) (content_of t first count)) values c.index c.next c.handles h, ← number, eq-eqb (form % 2) 1 (omega (arith, o)), envelope_size_lem edition)
           (put_in_line (took_one c) (bytes_of 8 0 ++ zeros 8) refl stored (took_stands s h) refl (omega arith) (omega arith))
 
     -- ---- with a member
@@ -88,15 +86,15 @@ module _ (members values out : List ℕ) (at : ℕ) (c : Cursor) (first count fo
       written : (t : TypeTable) → t.members ≡ members → union_record (content_of t first count) form v ≡ write_if (unless ordinal_unknown (leb 2 form || known)) (put (bytes_of 8 v))
       written t same = judged (content_of t first count) (eqb (form % 2) 1) (eqb (form / 2) 1) v n fits.fits ∙ rw (← (is t same), ← k, accepts form known small)
 
-      pub union_unknown : {f : Fault} → not (leb 2 form || known) ≡ true → f ≡ fault not_aValue (Index c.index) → UnionOpens members values out out at c first count form (Bad f)
-      union_unknown a e = unfit_bad (λ t same. written t same ∙ rw (not-true (leb 2 form || known) a)) e
+      pub union_unknown : {f : Fault} → leb 2 form || known ≡ false → f ≡ fault not_a_value (Index c.index) → UnionOpens members values out out at c first count form (Bad f)
+      union_unknown a e = unfit_bad (λ t same. written t same ∙ rw a) e
 
       -- The envelope follows the ordinal.
       after_ordinal : (content : ℕ → Content) (t : TypeTable) (below : E.Deeper) (v : ℕ) → (v ≡ 0 → ⊥) → R.after_union t below content v ≡ encode_content t.edition t below (content v)
       after_ordinal content t below zero z = absurd (z refl)
       after_ordinal content t below (suc v) z = refl
 
-      pub union_member : {out' : List ℕ} {d : Cursor} → not (leb 2 form || known) ≡ false → out' ≡ sets out at (bytes_of 8 v) → d ≡ took_one c
+      pub union_member : {out' : List ℕ} {d : Cursor} → leb 2 form || known ≡ true → out' ≡ sets out at (bytes_of 8 v) → d ≡ took_one c
           → UnionOpens members values out out' at c first count form (Some what d)
       union_member {out'} {d} a stored e t depth base edition same ask =
           let below = R.levels t depth in (
@@ -105,10 +103,10 @@ module _ (members values out : List ℕ) (at : ℕ) (c : Cursor) (first count fo
             λ out'' r p.
                 let q : Puts values out' out'' 8 (at + 8) base (took_one c) r (write_content_of_eight_bytes t below (ordinal_is what)) = rw e at p in
                 rw (
-                  record-at (union_record (content_of t first count) form) (R.after_union t below (content_of t first count)) values c.index c.next c.handles h,
+                  record_at (union_record (content_of t first count) form) (R.after_union t below (content_of t first count)) values c.index c.next c.handles h,
                   ← read,
                   written t same,
-                  not-false (leb 2 form || known) a,
+                  a,
                   after_ordinal (content_of t first count) t below v n,
                   content_written edition,
                   ← (is t same),

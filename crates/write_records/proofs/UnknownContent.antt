@@ -1,24 +1,25 @@
 -- Laws of unknown content: numbers that are judged and not stored, then the envelope; a law for each way that a function ends.
 -- Assumes nothing.
-use mathlib.Core.Path.{◌≡◌, refl, sym, ap, ◌∙◌}
-use mathlib.Core.Bool.{Bool, true, false, not, ◌&&◌}
+use Rattle.std.specs.Prelude.{if◌then◌else◌}
+use mathlib.Core.Path.{◌≡◌, refl, ap, ◌∙◌}
+use mathlib.Core.Bool.{Bool, true, false, ◌&&◌}
 use mathlib.Core.List.{List, []}
 use Prim.Native.Nat.{ℕ, zero, suc, ◌+◌, ◌-◌, ◌*◌, ◌/◌, ◌%◌, ◌≤◌, ◌<◌}
 use native.Mathlib.Numerals.{add-one}
 use native.Mathlib.Omega.{arith}
-use borrow.Author.Tests.{lt-ltb, le-ltb, le-leb, lt-leb, leb-true, ne_eqb, not-true, not-false}
+use borrow.Author.Tests.{lt-ltb, le-ltb, le-leb, lt-leb, leb-true, ne_eqb}
 use lib.Dec.{eqb, leb, ltb}
 use lib.ListN.{length, drop, get_or, length-drop, drop_of_length-le}
 use lib.Seq.{sets, drop-cons}
 use Rattle.rules.specs.declared.Fault.{Fault}
 use Rattle.rules.specs.declared.Place.TheVariants.{Index}
-use Rattle.rules.specs.Refusals.{if◌then◌else◌, fault, message_too_long, too_deep, not_aValue}
+use Rattle.rules.specs.Refusals.{fault, message_too_long, too_deep, not_a_value}
 use Rattle.rules.specs.TypeTable.{TypeTable}
 use Rattle.rules.specs.Writer as R
 use Rattle.rules.specs.Bytes.{bytes_of, padded}
 use Rattle.rules.specs.Encode as E
 use Rattle.rules.specs.Encode.{Encoded, wrote, cannot, Encoder}
-use Rattle.rules.specs.Envelope.{payload_in_line, claimable, envelope_bytes, handle_number_fits, word_fits, encode_word, write_words, byte_number_fits, write_unknown_in_line, write_unknown_out_of_line, write_unknown}
+use Rattle.rules.specs.Envelope.{payload_in_line, claimable, envelope_bytes, handle_number_fits, word_fits, write_words, byte_number_fits, write_unknown_in_line, write_unknown_out_of_line, write_unknown}
 use Rattle.write_leaves.specs.declared.cursor.Cursor.{Cursor}
 use Rattle.write_leaves.specs.declared.cursor.Wrote.{Wrote}
 use Rattle.write_leaves.specs.declared.cursor.Wrote.TheVariants.{On, Refused}
@@ -35,12 +36,12 @@ use Rattle.write_records.proofs.Openings.{padded_is}
 -- ---- a number that is judged
 
 module _ (holds : ℕ → Bool) (continue : ℕ → Encoder) (values : List ℕ) (i next used : ℕ) where
-  pub number_short : length values ≤ i → E.number_then holds continue (drop i values) next used ≡ cannot not_aValue 0
+  pub number_short : length values ≤ i → E.number_then holds continue (drop i values) next used ≡ cannot not_a_value 0
   unfolding E.number_then
   number_short h = rw (drop_of_length-le values h)
 
   pub number_at : i < length values → E.number_then holds continue (drop i values) next used
-      ≡ E.require (holds (get_or values i 0)) not_aValue (suc (length (drop (i + 1) values))) (continue (get_or values i 0) (drop (i + 1) values) next used)
+      ≡ E.require (holds (get_or values i 0)) not_a_value (suc (length (drop (i + 1) values))) (continue (get_or values i 0) (drop (i + 1) values) next used)
   unfolding E.number_then
   number_at h = rw (add-one, drop-cons values i 0 h)
 
@@ -110,12 +111,12 @@ both_false false = refl
 
 -- What the test against the payload says of the handle number.
 module _ (payload v : ℕ) {test : Bool} (judged : test ≡ claimable payload v) where
-  many : not test ≡ true → handle_number_fits payload v ≡ false
-  many k = let q : claimable payload v ≡ false = rw (← judged) (not-true test k) in rw q (both_false (ltb v 65536))
+  many : test ≡ false → handle_number_fits payload v ≡ false
+  many k = let q : claimable payload v ≡ false = rw (← judged) k in rw q (both_false (ltb v 65536))
 
-  module _ (k : not test ≡ false) where
+  module _ (k : test ≡ true) where
     claims : claimable payload v ≡ true
-    claims = rw (← judged) (not-false test k)
+    claims = rw (← judged) k
 
     pub room : v * 4 ≤ payload
     room = leb-true (v * 4) payload claims
@@ -136,20 +137,20 @@ unfolding bytes_of
 envelope_whole bytes handles flags = refl
 
 module _ (values out : List ℕ) (at : ℕ) (c : Cursor) (s : Stands values c) where
-  pub in_line_ended : {r : Wrote} → length values ≤ c.index → r ≡ Refused (fault not_aValue (Index c.index)) → PutsInLine values out out 8 at c r write_unknown_in_line
+  pub in_line_ended : {r : Wrote} → length values ≤ c.index → r ≡ Refused (fault not_a_value (Index c.index)) → PutsInLine values out out 8 at c r write_unknown_in_line
   unfolding write_unknown_in_line
   in_line_ended h e base =
-      rw (e, number_short (handle_number_fits payload_in_line) handles_next values c.index c.next c.handles h) (put_cannot not_aValue 0 c.index (omega (arith, s.left)))
+      rw (e, number_short (handle_number_fits payload_in_line) handles_next values c.index c.next c.handles h) (put_cannot not_a_value 0 c.index (omega (arith, s.left)))
 
   module _ {v : ℕ} {test : Bool} (h : c.index < length values) (read : v ≡ get_or values c.index 0) (judged : test ≡ claimable payload_in_line v) where
-    pub in_line_many : {r : Wrote} → not test ≡ true → r ≡ Refused (fault not_aValue (Index c.index)) → PutsInLine values out out 8 at c r write_unknown_in_line
+    pub in_line_many : {r : Wrote} → test ≡ false → r ≡ Refused (fault not_a_value (Index c.index)) → PutsInLine values out out 8 at c r write_unknown_in_line
     unfolding write_unknown_in_line
     in_line_many k e base =
         let t : handle_number_fits payload_in_line v ≡ false = many payload_in_line v judged k in
         rw (e, number_at (handle_number_fits payload_in_line) handles_next values c.index c.next c.handles h, ← read, t)
-        (put_cannot not_aValue (suc (length (drop (c.index + 1) values))) c.index (omega (arith, length-drop (c.index + 1) values)))
+        (put_cannot not_a_value (suc (length (drop (c.index + 1) values))) c.index (omega (arith, length-drop (c.index + 1) values)))
 
-    module _ {d : Cursor} (k : not test ≡ false) (e : d ≡ took_one c) where
+    module _ {d : Cursor} (k : test ≡ true) (e : d ≡ took_one c) where
       goes : write_unknown_in_line (drop c.index values) c.next c.handles ≡ E.and_then (E.take_handles v (drop (c.index + 1) values) c.next c.handles) (word_next v)
       unfolding write_unknown_in_line E.sequence
       goes =
@@ -171,17 +172,17 @@ module _ (values out : List ℕ) (at : ℕ) (c : Cursor) (s : Stands values c) w
         stands : Stands values f
         stands = rw held.moved (record { free = s.free; held = held.few; left = omega arith })
 
-        pub in_line_wordless : {r : Wrote} → length values ≤ f.index → r ≡ Refused (fault not_aValue (Index f.index)) → PutsInLine values out out 8 at c r write_unknown_in_line
+        pub in_line_wordless : {r : Wrote} → length values ≤ f.index → r ≡ Refused (fault not_a_value (Index f.index)) → PutsInLine values out out 8 at c r write_unknown_in_line
         in_line_wordless l a base =
             rw (a, on, number_short word_fits (λ word. E.inline_bytes (envelope_bytes word v 1)) values f.index f.next f.handles l)
-            (put_cannot not_aValue 0 f.index (omega (arith, stands.left)))
+            (put_cannot not_a_value 0 f.index (omega (arith, stands.left)))
 
         module _ {w : ℕ} (l : f.index < length values) (reads : w ≡ get_or values f.index 0) where
-          pub in_line_large : {r : Wrote} → 4294967295 < w → r ≡ Refused (fault not_aValue (Index f.index)) → PutsInLine values out out 8 at c r write_unknown_in_line
+          pub in_line_large : {r : Wrote} → 4294967295 < w → r ≡ Refused (fault not_a_value (Index f.index)) → PutsInLine values out out 8 at c r write_unknown_in_line
           in_line_large m a base =
               let t : ltb w 4294967296 ≡ false = le-ltb w 4294967296 (omega arith) in
               rw (a, on, number_at word_fits (λ word. E.inline_bytes (envelope_bytes word v 1)) values f.index f.next f.handles l, ← reads, t)
-              (put_cannot not_aValue (suc (length (drop (f.index + 1) values))) f.index (omega (arith, length-drop (f.index + 1) values)))
+              (put_cannot not_a_value (suc (length (drop (f.index + 1) values))) f.index (omega (arith, length-drop (f.index + 1) values)))
 
           pub in_line_put : {out' : List ℕ} {g : Cursor} → w ≤ 4294967295 → out' ≡ sets out at (envelope_bytes w v 1) → g ≡ took_one f
               → PutsInLine values out out' 8 at c (On g) write_unknown_in_line
@@ -234,18 +235,18 @@ module _ (values out : List ℕ) (base bytes at : ℕ) (c : Cursor) (ask : Ask v
       unfolding write_unknown_out_of_line
       space = let t : leb (c.next + padded bytes) 65536 ≡ true = le-leb (c.next + padded bytes) 65536 (omega (arith, full, ask.free)) in rw t
 
-      pub out_ended : {r : Wrote} → length values ≤ c.index → r ≡ Refused (fault not_aValue (Index c.index)) → Puts values out out 8 at base c r (write_unknown_out_of_line bytes)
+      pub out_ended : {r : Wrote} → length values ≤ c.index → r ≡ Refused (fault not_a_value (Index c.index)) → Puts values out out 8 at base c r (write_unknown_out_of_line bytes)
       out_ended h e =
-          rw (e, space, number_short (handle_number_fits bytes) words_next values c.index c.next c.handles h) (put_cannot not_aValue 0 c.index (omega (arith, ask.left)))
+          rw (e, space, number_short (handle_number_fits bytes) words_next values c.index c.next c.handles h) (put_cannot not_a_value 0 c.index (omega (arith, ask.left)))
 
       module _ {v : ℕ} {test : Bool} (h : c.index < length values) (read : v ≡ get_or values c.index 0) (judged : test ≡ claimable bytes v) where
-        pub out_many : {r : Wrote} → not test ≡ true → r ≡ Refused (fault not_aValue (Index c.index)) → Puts values out out 8 at base c r (write_unknown_out_of_line bytes)
+        pub out_many : {r : Wrote} → test ≡ false → r ≡ Refused (fault not_a_value (Index c.index)) → Puts values out out 8 at base c r (write_unknown_out_of_line bytes)
         out_many k e =
             let t : handle_number_fits bytes v ≡ false = many bytes v judged k in
             rw (e, space, number_at (handle_number_fits bytes) words_next values c.index c.next c.handles h, ← read, t)
-            (put_cannot not_aValue (suc (length (drop (c.index + 1) values))) c.index (omega (arith, length-drop (c.index + 1) values)))
+            (put_cannot not_a_value (suc (length (drop (c.index + 1) values))) c.index (omega (arith, length-drop (c.index + 1) values)))
 
-        module _ {d : Cursor} (k : not test ≡ false) (e : d ≡ took_one c) where
+        module _ {d : Cursor} (k : test ≡ true) (e : d ≡ took_one c) where
           out_goes : write_unknown_out_of_line bytes (drop c.index values) c.next c.handles
               ≡ E.and_then (E.take_handles v (drop (c.index + 1) values) c.next c.handles) (write_words bytes v)
           unfolding E.sequence
@@ -278,7 +279,7 @@ module _ (values out : List ℕ) (base bytes at : ℕ) (c : Cursor) (ask : Ask v
                 (after_put (envelope_bytes bytes v 0) (envelope_whole bytes v 0) stored
                 (put_from (claimed_from (words_from_lem c bytes f.handles f.index)) refl (omega arith) (omega arith) (rw eight at q)) before)
 
-        module _ (k : not test ≡ false) where
+        module _ (k : test ≡ true) where
           pub plain_over : {r : Wrote} → 64 < c.handles + v → r ≡ Refused (fault 4 (Index c.index)) → Puts values out out 8 at base c r (write_unknown_out_of_line bytes)
           plain_over l e =
               let i : c.index ≡ c.index + 1 - 1 = omega arith in
@@ -317,21 +318,21 @@ module _ (values out : List ℕ) (depth base at : ℕ) (c : Cursor) (ask : Ask v
         go zero k = absurd (k refl)
         go (suc n) k = refl
 
-    pub content_ended : {r : Wrote} → length values ≤ c.index → r ≡ Refused (fault not_aValue (Index c.index)) → UnknownPuts values out out depth at c base r
+    pub content_ended : {r : Wrote} → length values ≤ c.index → r ≡ Refused (fault not_a_value (Index c.index)) → UnknownPuts values out out depth at c base r
     content_ended h e t =
-        rw (e, content_goes t, number_short byte_number_fits content_next values c.index c.next c.handles h) (put_cannot not_aValue 0 c.index (omega (arith, ask.left)))
+        rw (e, content_goes t, number_short byte_number_fits content_next values c.index c.next c.handles h) (put_cannot not_a_value 0 c.index (omega (arith, ask.left)))
 
     module _ {v : ℕ} (h : c.index < length values) (read : v ≡ get_or values c.index 0) where
-      content_unfit : byte_number_fits v ≡ false → UnknownPuts values out out depth at c base (Refused (fault not_aValue (Index c.index)))
+      content_unfit : byte_number_fits v ≡ false → UnknownPuts values out out depth at c base (Refused (fault not_a_value (Index c.index)))
       content_unfit w t =
           rw (content_goes t, number_at byte_number_fits content_next values c.index c.next c.handles h, ← read, w)
-          (put_cannot not_aValue (suc (length (drop (c.index + 1) values))) c.index (omega (arith, length-drop (c.index + 1) values)))
+          (put_cannot not_a_value (suc (length (drop (c.index + 1) values))) c.index (omega (arith, length-drop (c.index + 1) values)))
 
-      pub content_odd : {r : Wrote} → (v % 8 ≡ 0 → ⊥) → r ≡ Refused (fault not_aValue (Index c.index)) → UnknownPuts values out out depth at c base r
+      pub content_odd : {r : Wrote} → (v % 8 ≡ 0 → ⊥) → r ≡ Refused (fault not_a_value (Index c.index)) → UnknownPuts values out out depth at c base r
       content_odd k e = let w : byte_number_fits v ≡ false = rw (ne_eqb (v % 8) 0 k) in rw e (content_unfit w)
 
       module _ (eights : v % 8 ≡ 0) where
-        pub content_large : {r : Wrote} → 4294967295 < v → r ≡ Refused (fault not_aValue (Index c.index)) → UnknownPuts values out out depth at c base r
+        pub content_large : {r : Wrote} → 4294967295 < v → r ≡ Refused (fault not_a_value (Index c.index)) → UnknownPuts values out out depth at c base r
         content_large k e =
             let l : ltb v 4294967296 ≡ false = le-ltb v 4294967296 (omega arith) in
             let w : byte_number_fits v ≡ false = rw (eights, l) in rw e (content_unfit w)

@@ -1,11 +1,9 @@
 -- Records that lead to an object: what was put, and what is left to put.
 -- Assumes nothing.
-use Rattle.std.specs.Prelude.{Bool, List, ◌≡◌, ℕ, ◌+◌, ◌-◌, ◌*◌, ◌/◌, ◌%◌, ◌≤◌, ◌<◌, eqb, length, drop}
+use Rattle.std.specs.Prelude.{List, ◌≡◌, ℕ, ◌+◌, ◌-◌, ◌≤◌, drop}
 use Rattle.rules.specs.Bytes.{padded}
-use Rattle.rules.specs.Sizes.{size_of}
 use Rattle.rules.specs.Encode as E
 use Rattle.rules.specs.Encode.{Encoded, Encoder}
-use Rattle.rules.specs.Writer as R
 use Rattle.write_leaves.specs.declared.cursor.Cursor.{Cursor}
 use Rattle.write_leaves.specs.declared.cursor.Wrote.{Wrote}
 use Rattle.write_leaves.specs.declared.cursor.Wrote.TheVariants as W

@@ -1,10 +1,9 @@
 -- What the functions of records.rt and envelopes.rt promise. Each holds under any type table in which the sizes handed in are the
 -- rows', wherever the output starts; tables and unions where envelopes have eight bytes.
 -- Assumes nothing.
-use Rattle.std.specs.Prelude.{true, List, ◌++◌, ◌≡◌, ℕ, zero, suc, ◌+◌, ◌-◌, ◌*◌, ◌/◌, ◌%◌, ◌≤◌, ◌<◌, eqb, leb, length, drop, get_or}
+use Rattle.std.specs.Prelude.{true, List, ◌++◌, ◌≡◌, ℕ, zero, suc, ◌+◌, ◌-◌, ◌*◌, ◌/◌, ◌%◌, ◌<◌, eqb, leb, length, drop, get_or, if◌then◌else◌}
 use Rattle.std.proofs.lemmas.List.Edits.{sets}
 use Rattle.rules.specs.Bytes.{ones64, zeros, bytes_of}
-use Rattle.rules.specs.Refusals.{if◌then◌else◌}
 use Rattle.rules.specs.TypeTable.{TypeTable, eight_byte_envelopes, Content, content_of}
 use Rattle.rules.specs.Sizes.{size_of}
 use Rattle.rules.specs.Encode as E
@@ -22,7 +21,7 @@ use Rattle.write_records.specs.declared.records.Opened.{Opened}
 use Rattle.write_records.specs.declared.records.Opened.TheVariants.{Closed, Open, Refused}
 use Rattle.write_records.specs.declared.envelopes.Member.{Member}
 use Rattle.write_records.specs.declared.envelopes.Member.TheVariants.{None, Some, Bad}
-use Rattle.write_leaves.specs.Putting.{Put, Puts, took_one, Stands, Ask}
+use Rattle.write_leaves.specs.Putting.{Put, Puts, took_one, Ask}
 use Rattle.write_leaves.specs.InLine.{numbers_as}
 use Rattle.write_records.specs.Opening.{claimed_from, ObjectPut, Opens}
 

@@ -13,7 +13,7 @@ use rules::Fault;
 use write_leaves::cursor::{Cursor, Wrote, fault_at, put_zeros, refused, took, with_handles};
 
 // What a union's number says: no member, one whose envelope follows, or a refusal.
-#[derive(Drop)]
+#[derive(Clone, Copy)]
 pub enum Member {
     None(Cursor),
     Some(Ordinal, Cursor),

@@ -13,14 +13,14 @@ use write_leaves::cursor::{Cursor, Wrote, fault_at, put_zeros, refused, took};
 use write_leaves::scalars::numbers;
 
 // An object that is claimed and not written yet: how many elements, where it starts, and the cursor after the claim.
-#[derive(Drop)]
+#[derive(Clone, Copy)]
 pub struct Opening {
     pub count: usize,
     pub start: usize,
     pub cursor: Cursor,
 }
 
-#[derive(Drop)]
+#[derive(Clone, Copy)]
 pub enum Opened {
     Closed(Cursor),
     Open(Opening),

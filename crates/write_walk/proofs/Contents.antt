@@ -1,8 +1,8 @@
 -- An envelope's content, from its parts: the payload, and then the envelope's fields.
 -- Assumes nothing.
-use mathlib.Core.List.{List, [], ◌∷◌, ◌++◌, append-nil, append_assoc}
+use mathlib.Core.List.{List, [], ◌∷◌, ◌++◌}
 use mathlib.Core.Path.{◌≡◌, refl, sym, ap, ◌∙◌}
-use Prim.Native.Nat.{ℕ, suc, ◌+◌, ◌-◌, ◌*◌, ◌≤◌, ◌<◌}
+use Prim.Native.Nat.{ℕ, ◌+◌, ◌-◌, ◌≤◌, ◌<◌}
 use native.Mathlib.Omega.{arith}
 use borrow.Author.Tests.{le-leb, lt-leb}
 use lib.ListN.{length, drop, get_or, length-append}
@@ -29,7 +29,7 @@ use Rattle.write_leaves.specs.declared.cursor.Wrote.TheVariants.{On, Refused}
 use Rattle.write_records.specs.declared.records.Opening.{Opening}
 use Rattle.write_records.specs.declared.records.Opened.{Opened}
 use Rattle.write_records.specs.declared.records.Opened.TheVariants.{Closed, Open}
-use Rattle.write_leaves.specs.Putting.{answer, Stored, Fits, Fit, Put, Puts, Stands, Ask}
+use Rattle.write_leaves.specs.Putting.{answer, Stored, Fit, Put, Puts, Stands, Ask}
 use Rattle.write_records.specs.Opening.{Claimed, Opens}
 use Rattle.write_records.specs.Promises.{NotClosed, UnknownPuts, DeeperOpens, sealed_out}
 use Rattle.write_walk.specs.Walking.{PayloadReady, write_row, ValuePut, SingleOf, ContentPut}

@@ -2,7 +2,7 @@
 -- Assumes nothing.
 use mathlib.Core.List.{List, ◌++◌}
 use mathlib.Core.Path.{◌≡◌, refl, sym, ap, ◌∙◌}
-use Prim.Native.Nat.{ℕ, ◌+◌, ◌-◌, ◌*◌, ◌≤◌, ◌<◌, min}
+use Prim.Native.Nat.{ℕ, ◌+◌, ◌-◌, ◌*◌, ◌<◌, min}
 use native.Mathlib.Omega.{arith}
 use lib.ListN.{length, take, drop, get_or}
 use Rattle.rules.specs.declared.Fault.{Fault}
@@ -26,8 +26,8 @@ use Rattle.write_records.specs.declared.records.Opened.{Opened}
 use Rattle.write_records.specs.declared.records.Opened.TheVariants.{Closed, Open}
 use Rattle.write_records.specs.declared.envelopes.Member.{Member}
 use Rattle.write_records.specs.declared.envelopes.Member.TheVariants.{None, Some, Bad}
-use Rattle.write_leaves.specs.Putting.{Put, Puts, took_one, Stands, Ask}
-use Rattle.write_records.specs.Opening.{claimed_from, Claimed, Opens}
+use Rattle.write_leaves.specs.Putting.{Ask}
+use Rattle.write_records.specs.Opening.{Claimed, Opens}
 use Rattle.write_records.specs.Promises.{Reaches, CountedOpens, BoxOpens, TableOpens, OpensMember, UnionOpens, MemberIs}
 use Rattle.write_walk.specs.Walking.{write_row, write_elements, write_envelope, ValuePut, ObjectOf, SingleOf, EnvelopesPut, ContentPut}
 use Rattle.write_walk.proofs.ByKind.{encode_vector, encode_box, encode_table, encode_union}

@@ -1,8 +1,8 @@
 -- A table's envelopes in turn: absent ones, and those with content.
 -- Assumes nothing.
-use mathlib.Core.Bool.{Bool, true, false, not, ◌&&◌, ◌||◌}
+use mathlib.Core.Bool.{Bool, true, false, ◌&&◌, ◌||◌}
 use mathlib.Core.List.{List, [], ◌∷◌}
-use mathlib.Core.Path.{◌≡◌, refl, sym, ap, ◌∙◌}
+use mathlib.Core.Path.{◌≡◌, refl, ◌∙◌}
 use Prim.Native.Nat.{ℕ, zero, suc, ◌+◌, ◌-◌, ◌*◌, ◌≤◌, ◌<◌}
 use native.Mathlib.Numerals.{add-one}
 use native.Mathlib.Omega.{arith}
@@ -12,7 +12,7 @@ use lib.ListN.{length, drop, get_or, length-drop, drop_of_length-le}
 use lib.Seq.{sets, drop-cons}
 use Rattle.rules.specs.declared.Fault.{Fault}
 use Rattle.rules.specs.declared.Place.TheVariants.{Index}
-use Rattle.rules.specs.Refusals.{fault, not_aValue}
+use Rattle.rules.specs.Refusals.{fault, not_a_value}
 use Rattle.rules.specs.Bytes.{zeros, bytes_of}
 use Rattle.rules.specs.TypeTable.{TypeTable, a_at, b_at, content_of}
 use Rattle.rules.specs.Encode as E
@@ -25,7 +25,7 @@ use Rattle.nesting.proofs.Runs.{RunLeft, run_start, run_asks, run_on, run_refuse
 use Rattle.write_leaves.specs.declared.cursor.Cursor.{Cursor}
 use Rattle.write_leaves.specs.declared.cursor.Wrote.{Wrote}
 use Rattle.write_leaves.specs.declared.cursor.Wrote.TheVariants.{On, Refused}
-use Rattle.write_leaves.specs.Putting.{Put, Puts, took_one, Ask}
+use Rattle.write_leaves.specs.Putting.{Puts, took_one, Ask}
 use Rattle.write_walk.specs.Walking.{write_envelope, EnvelopesPut, ContentPut}
 use Rattle.write_leaves.proofs.InLine.{put_in_line, put_cannot}
 use Rattle.write_records.proofs.UnknownContent.{put_later}
@@ -34,7 +34,7 @@ use Rattle.write_leaves.proofs.Writing.{writing}
 -- ---- one envelope, by its number
 
 module _ (last : Bool) (content : Encoder) (values : List ℕ) (i next used : ℕ) where
-  envelope_short : length values ≤ i → E.optional_envelope 8 last content (drop i values) next used ≡ cannot not_aValue 0
+  envelope_short : length values ≤ i → E.optional_envelope 8 last content (drop i values) next used ≡ cannot not_a_value 0
   unfolding E.optional_envelope
   envelope_short h = rw (drop_of_length-le values h)
 
@@ -43,12 +43,12 @@ module _ (last : Bool) (content : Encoder) (values : List ℕ) (i next used : �
     envelope_at_lem = rw (read, add-one, drop-cons values i 0 h)
 
     -- Neither 0 nor 1, or a 0 that is the last.
-    envelope_wrong : ltb 1 v || (eqb v 0 && last) ≡ true → E.optional_envelope 8 last content (drop i values) next used ≡ cannot not_aValue (suc (length (drop (i + 1) values)))
+    envelope_wrong : ltb 1 v || (eqb v 0 && last) ≡ true → E.optional_envelope 8 last content (drop i values) next used ≡ cannot not_a_value (suc (length (drop (i + 1) values)))
     unfolding E.optional_envelope
     envelope_wrong w = envelope_at_lem ∙ go v last w
       where
         go : (v : ℕ) (last : Bool) → ltb 1 v || (eqb v 0 && last) ≡ true
-            → E.optional_envelope 8 last content (v ∷ drop (i + 1) values) next used ≡ cannot not_aValue (suc (length (drop (i + 1) values)))
+            → E.optional_envelope 8 last content (v ∷ drop (i + 1) values) next used ≡ cannot not_a_value (suc (length (drop (i + 1) values)))
         go zero true w = refl
         go zero false w = absurd (let z : ◌≡◌ {A = ℕ} 0 1 = cc in omega arith)
         go (suc zero) last w = absurd (let z : ◌≡◌ {A = ℕ} 0 1 = cc in omega arith)
@@ -101,17 +101,17 @@ module _ (t : TypeTable) (values : List ℕ) (base depth row count : ℕ) (out :
       abbrev content_at : Encoder
       content_at = write_content_of_eight_bytes t (R.levels t depth) (content_of t (a_at t row) (b_at t row) (i + 1))
 
-      pub one_ended : {w : Wrote} → length values ≤ d.index → w ≡ Refused (fault not_aValue (Index d.index)) → EnvelopesPut t values out out' base depth c row count w
+      pub one_ended : {w : Wrote} → length values ≤ d.index → w ≡ Refused (fault not_a_value (Index d.index)) → EnvelopesPut t values out out' base depth c row count w
       one_ended k y =
           let a = envelope_asks in
-          rw y (run_refused r (omega arith) (rw (envelope_short (eqb (i + 1) count) content_at values d.index d.next d.handles k) (put_cannot not_aValue 0 d.index (omega (arith, a.left)))))
+          rw y (run_refused r (omega arith) (rw (envelope_short (eqb (i + 1) count) content_at values d.index d.next d.handles k) (put_cannot not_a_value 0 d.index (omega (arith, a.left)))))
 
       module _ {v : ℕ} (k : d.index < length values) (read : v ≡ get_or values d.index 0) where
-        pub one_wrong : {w : Wrote} → ltb 1 v || (eqb v 0 && eqb (i + 1) count) ≡ true → w ≡ Refused (fault not_aValue (Index d.index))
+        pub one_wrong : {w : Wrote} → ltb 1 v || (eqb v 0 && eqb (i + 1) count) ≡ true → w ≡ Refused (fault not_a_value (Index d.index))
             → EnvelopesPut t values out out' base depth c row count w
         one_wrong test y =
             rw y (run_refused r (omega arith) (rw (envelope_wrong (eqb (i + 1) count) content_at values d.index d.next d.handles k read test)
-            (put_cannot not_aValue (suc (length (drop (d.index + 1) values))) d.index (omega (arith, length-drop (d.index + 1) values)))))
+            (put_cannot not_a_value (suc (length (drop (d.index + 1) values))) d.index (omega (arith, length-drop (d.index + 1) values)))))
 
         module _ (test : ltb 1 v || (eqb v 0 && eqb (i + 1) count) ≡ false) {e : Cursor} (took : e ≡ took_one d) where
           pub one_absent : {out'' : List ℕ} → v ≡ 0 → out'' ≡ sets out' (i * 8) (bytes_of 8 0) → EnvelopesLeft t values base depth row count out out'' c e (i + 1)

@@ -96,10 +96,10 @@ lent_long count out fits = sym (length-take-le count out fits)
 
 -- What is answered, and what the output holds after.
 abbrev pub Gives : (given : Answer Rules.Written) (lent : List ℕ) → Written → (after : List ℕ) → Type 0
-Gives given lent r after = (written_of r ≡ sizes_of given) × ((after ≡ output_after given lent) × (written_numbers r ≡ numbers_of 2 sized given))
+Gives given lent r after = record { answer : written_of r ≡ sizes_of given; output : after ≡ output_after given lent; numbers : written_numbers r ≡ numbers_of 2 sized given }
 
 gives : (given : Answer Rules.Written) (lent : List ℕ) (r : Written) {after : List ℕ} → written_of r ≡ sizes_of given → after ≡ output_after given lent → Gives given lent r after
-gives given lent r e left = (e, (left, written_numbers_lem r given e))
+gives given lent r e left = record { answer = e; output = left; numbers = written_numbers_lem r given e }
 
 gives_nothing : {given : Answer Rules.Written} {f : Fault} (lent : List ℕ) → given ≡ refused f → Gives given lent (Refused f) lent
 gives_nothing {given} {f} lent e = gives given lent (Refused f) (rw e) (rw e)

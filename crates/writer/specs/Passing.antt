@@ -3,7 +3,7 @@
 use Rattle.std.specs.Prelude.{List, ◌≡◌, ℕ, eqb, length}
 use Rattle.std.proofs.lemmas.List.Edits.{sets}
 use Rattle.rules.specs.declared.Place.TheVariants.{Index}
-use Rattle.rules.specs.Refusals.{fault, not_aValue, Answer, accepted, require}
+use Rattle.rules.specs.Refusals.{fault, not_a_value, Answer, accepted, require}
 use Rattle.rules.specs.TypeTable.{TypeTable}
 use Rattle.rules.specs.Answers as Rules
 use Rattle.rules.specs.Answers.{encode, closed}
@@ -21,7 +21,7 @@ start = record { next = 0; handles = 0; index = 0 }
 -- 26 for numbers left: what is answered where the value ends.
 abbrev pub after_value : (end : Cursor) (total : ℕ) → Answer Sizes
 after_value end total =
-    require (eqb end.index total) (fault not_aValue (Index end.index)) (accepted (record { bytes = end.next; handles = end.handles }))
+    require (eqb end.index total) (fault not_a_value (Index end.index)) (accepted (record { bytes = end.next; handles = end.handles }))
 
 module _ (t : TypeTable) (values : List ℕ) (root : ℕ) (out out' : List ℕ) where
   -- The whole message is one object, and claims no bytes in line.

@@ -1,4 +1,6 @@
 // The writer: document 01, "Object list and value list".
+#![tactic(auto)]
+
 mod pass;
 
 ghost use Rattle.std.specs.Prelude.{◌≡◌, length};
@@ -11,14 +13,14 @@ use pass::{measure, pass};
 use rules::{Fault, Place};
 
 // How many bytes and handles a message has.
-#[derive(Drop)]
+#[derive(Clone, Copy)]
 pub struct Sizes {
     pub bytes: usize,
     pub handles: usize,
 }
 
 // What the writer answers.
-#[derive(Drop)]
+#[derive(Clone, Copy)]
 pub enum Written {
     Accepted(Sizes),
     Refused(Fault),

@@ -2,7 +2,9 @@
 
 use crate::refusal::{Refusal, Side, judged};
 use crate::{Epitaph, Header, TypeTable};
-use ratlinery_sys::slices::{self, Asked, Counts};
+#[cfg(feature = "prepared")]
+use ratlinery_sys::slices::Counts;
+use ratlinery_sys::slices::{self, Asked};
 
 pub(crate) fn layout(table: TypeTable, row: u32) -> Result<[u64; 2], Refusal> {
     let mut answer = [0; 3];
@@ -73,24 +75,28 @@ pub(crate) fn utf8(text: &[u8]) -> Result<(), Refusal> {
     judged(Side::Reader, number, answer[0])
 }
 
+#[cfg(feature = "prepared")]
 pub(crate) fn prepare(table: TypeTable, state: &mut [u32]) -> Result<(), Refusal> {
     let mut answer = [0; 1];
     let number = slices::prepare(table.types, state, &mut answer);
     judged(Side::Reader, number, answer[0])
 }
 
+#[cfg(feature = "prepared")]
 pub(crate) fn append(table: TypeTable, state: &mut [u32]) -> Result<(), Refusal> {
     let mut answer = [0; 1];
     let number = slices::append(table.types, state, &mut answer);
     judged(Side::Reader, number, answer[0])
 }
 
+#[cfg(feature = "prepared")]
 pub(crate) fn go_back(table: TypeTable, to: Counts, state: &mut [u32]) -> Result<(), Refusal> {
     let mut answer = [0; 1];
     let number = slices::go_back(table.types, to, state, &mut answer);
     judged(Side::Reader, number, answer[0])
 }
 
+#[cfg(feature = "prepared")]
 pub(crate) fn check_prepared(asked: Asked, state: &[u32]) -> Result<(), Refusal> {
     let mut answer = [0; 1];
     let number = slices::check_prepared(asked, state, &mut answer);

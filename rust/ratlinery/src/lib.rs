@@ -57,6 +57,7 @@
 
 mod call;
 mod header;
+#[cfg(feature = "prepared")]
 mod prepared;
 mod refusal;
 pub mod row;
@@ -65,6 +66,7 @@ mod text;
 mod tree;
 
 pub use header::{Epitaph, Header};
+#[cfg(feature = "prepared")]
 pub use prepared::Prepared;
 pub use refusal::{Place, Reason, Refusal};
 pub use table::{Layout, Object, ObjectKind, Reading, TypeTable, Written};

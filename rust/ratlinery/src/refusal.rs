@@ -34,6 +34,7 @@ pub enum Reason {
     NotAValue = 26,
     BadHandleNumber = 28,
     UnknownValue = 29,
+    #[cfg(feature = "prepared")]
     StateDisagrees = 34,
     ImpossibleHandles = 35,
 }
@@ -41,7 +42,7 @@ pub enum Reason {
 use Reason::*;
 
 /// Each reason, in the order of the numbers, with a sentence for a person.
-const SENTENCES: [(Reason, &str); 30] = [
+const SENTENCES: &[(Reason, &str)] = &[
     (TableNotSound, "the type table is not sound"),
     (RootNotAllowed, "there is no such row, or it may not be a root"),
     (TooManyBytes, "the message has more than 65,536 bytes"),
@@ -73,12 +74,13 @@ const SENTENCES: [(Reason, &str); 30] = [
     (NotAValue, "the list is not a value of the root's type"),
     (BadHandleNumber, "an envelope's handle number is wrong"),
     (UnknownValue, "a strict enum or strict bits have a value that their type does not know"),
+    #[cfg(feature = "prepared")]
     (StateDisagrees, "the prepared state does not agree with the type table"),
     (ImpossibleHandles, "unknown content claims more handles than its bytes have room for"),
 ];
 
 impl Reason {
-    /// The number: 1 to 26, 28, 29, 34 or 35.
+    /// The number: 1 to 26, 28, 29 or 35.
     pub fn number(self) -> u32 {
         self as u32
     }
@@ -97,13 +99,13 @@ impl Reason {
 /// What was judged.
 #[derive(Clone, Copy, Debug, PartialEq, Eq, Hash)]
 pub enum Place {
-    /// A row of the type table; 256 stands for the length of a list, or for a count to go back to.
+    /// A row of the type table; 256 stands for the length of a list.
     Row(u64),
     /// A byte of the message, or of a text by itself.
     Byte(u64),
     /// A number of the value list.
     Index(u64),
-    /// How much: handles used, or the bytes or numbers that are needed; 0 where there is nothing to tell.
+    /// How much: handles used, or the bytes or numbers that are needed.
     Amount(u64),
 }
 
@@ -136,7 +138,7 @@ pub struct Refusal {
 }
 
 impl Refusal {
-    /// The number: 1 to 26, 28, 29, 34 or 35.
+    /// The number: 1 to 26, 28, 29 or 35.
     pub fn number(&self) -> u32 {
         self.reason.number()
     }
@@ -155,7 +157,7 @@ impl fmt::Display for Refusal {
         let sentence = self.reason.sentence();
         write!(f, "refusal {}: {sentence}", self.number())?;
         match (self.reason, self.place) {
-            (TableNotSound, Place::Row(256)) => write!(f, " (the length of a list, or a count, is wrong)"),
+            (TableNotSound, Place::Row(256)) => write!(f, " (the length of a list is wrong)"),
             (_, Place::Row(row)) => write!(f, " (row {row})"),
             (TooManyBytes, Place::Byte(_)) => Ok(()),
             (_, Place::Byte(byte)) => write!(f, " (byte {byte})"),
@@ -184,9 +186,9 @@ pub(crate) fn judged(side: Side, number: u32, place: u64) -> Result<(), Refusal>
     let reason = Reason::from_number(number).expect("a number of the library's");
     let place = match (reason, side) {
         (TableNotSound | RootNotAllowed, _) => Place::Row(place),
-        (HandlesLeft | RoomTooSmall | StateDisagrees, _) | (TooManyHandles, Side::Reader) => {
-            Place::Amount(place)
-        }
+        (HandlesLeft | RoomTooSmall, _) | (TooManyHandles, Side::Reader) => Place::Amount(place),
+        #[cfg(feature = "prepared")]
+        (StateDisagrees, _) => Place::Amount(place),
         (NotAValue, _) | (TooManyBytes | TooManyHandles | TooDeep, Side::Writer) => Place::Index(place),
         _ => Place::Byte(place),
     };
@@ -200,7 +202,8 @@ mod tests {
     #[test]
     fn reasons_and_numbers_go_together() {
         let numbers: Vec<u32> = (0..100).filter(|&number| Reason::from_number(number).is_some()).collect();
-        assert_eq!(numbers, (1..=26).chain([28, 29, 34, 35]).collect::<Vec<_>>());
+        let of_states = cfg!(feature = "prepared").then_some(34);
+        assert_eq!(numbers, (1..=26).chain([28, 29]).chain(of_states).chain([35]).collect::<Vec<_>>());
         for number in numbers {
             let reason = Reason::from_number(number).unwrap();
             assert_eq!(reason.number(), number);

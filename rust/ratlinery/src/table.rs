@@ -5,8 +5,8 @@ use crate::refusal::{Reason, Refusal};
 use crate::tree::Tree;
 use ratlinery_sys::slices::{Asked, Types};
 
-/// A type table: rows, members and entries, as `include/ratlinery.h` describes them. Each call judges it anew;
-/// [`Prepared`](crate::Prepared) keeps what was worked out.
+/// A type table: rows, members and entries, as `include/ratlinery.h` describes them. Each call judges it anew.
+#[cfg_attr(feature = "prepared", doc = "[`Prepared`](crate::Prepared) keeps what was worked out.")]
 #[derive(Clone, Copy, Debug, PartialEq, Eq)]
 pub struct TypeTable<'t> {
     pub(crate) types: Types<'t>,

@@ -1,6 +1,7 @@
 //! The functions of include/ratlinery.h with slices for pointers and lengths. A test can put the same input through two
 //! implementations and compare the numbers returned and every buffer.
 
+#[cfg(feature = "prepared")]
 use crate::prepared::{Counts, STATE};
 use crate::{Answer, Epitaph, Header, Message, Schema, check_utf8, refusal};
 
@@ -57,12 +58,16 @@ pub trait Face {
 
     fn utf8(&self, text: &[u8], answer: &mut [u64]) -> u32;
 
+    #[cfg(feature = "prepared")]
     fn prepare(&self, table: Table, state: &mut [u32], answer: &mut [u64]) -> u32;
 
+    #[cfg(feature = "prepared")]
     fn append(&self, table: Table, state: &mut [u32], answer: &mut [u64]) -> u32;
 
+    #[cfg(feature = "prepared")]
     fn go_back(&self, table: Table, to: Counts, state: &mut [u32], answer: &mut [u64]) -> u32;
 
+    #[cfg(feature = "prepared")]
     fn check_prepared(
         &self,
         table: Table,
@@ -154,18 +159,22 @@ impl Face for Reference {
         store(check_utf8(text).map(|()| []), answer)
     }
 
+    #[cfg(feature = "prepared")]
     fn prepare(&self, table: Table, state: &mut [u32], answer: &mut [u64]) -> u32 {
         store(table.prepare().and_then(|after| put_state(after, state)), answer)
     }
 
+    #[cfg(feature = "prepared")]
     fn append(&self, table: Table, state: &mut [u32], answer: &mut [u64]) -> u32 {
         store(table.append(state).and_then(|after| put_state(after, state)), answer)
     }
 
+    #[cfg(feature = "prepared")]
     fn go_back(&self, table: Table, to: Counts, state: &mut [u32], answer: &mut [u64]) -> u32 {
         store(table.go_back(to, state).and_then(|after| put_state(after, state)), answer)
     }
 
+    #[cfg(feature = "prepared")]
     fn check_prepared(
         &self,
         table: Table,
@@ -193,6 +202,7 @@ fn put(bytes: &[u8], out: &mut [u8]) -> Answer<[u64; 1]> {
 }
 
 /// Puts a state to the start of a list, if there is room (22).
+#[cfg(feature = "prepared")]
 fn put_state(after: [u32; STATE], state: &mut [u32]) -> Answer<[u64; 0]> {
     refusal::require(state.len() >= STATE, 22, STATE)?;
     state[..STATE].copy_from_slice(&after);

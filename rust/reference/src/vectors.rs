@@ -6,13 +6,15 @@
 //! `index=number` with `;` between them.
 
 use crate::face::{Face, Table};
-use crate::prepared::{Counts, START, STATE};
+use crate::prepared::STATE;
+#[cfg(feature = "prepared")]
+use crate::prepared::{Counts, START};
 use crate::{Epitaph, Header, Message};
 use std::collections::BTreeMap;
 use std::path::Path;
 
 /// The files that are run.
-pub const FILES: [&str; 12] = [
+pub const FILES: &[&str] = &[
     "text.txt",
     "base.txt",
     "conformance.txt",
@@ -24,6 +26,7 @@ pub const FILES: [&str; 12] = [
     "W-201.txt",
     "W-202.txt",
     "W-206.txt",
+    #[cfg(feature = "prepared")]
     "W-207.txt",
 ];
 
@@ -82,9 +85,13 @@ fn run(face: &dyn Face, line: &str) -> Result<String, String> {
         "header_read" => case.header_read(),
         "header_write" => case.header_write(),
         "epitaph_write" => case.epitaph_write(),
+        #[cfg(feature = "prepared")]
         "prepare" => case.prepare(),
+        #[cfg(feature = "prepared")]
         "append" => case.append(),
+        #[cfg(feature = "prepared")]
         "go_back" => case.go_back(),
+        #[cfg(feature = "prepared")]
         "state_check" => case.state_check(),
         _ => Err("no such operation".into()),
     }
@@ -129,6 +136,7 @@ fn or_dash(text: String) -> String {
 }
 
 /// The numbers of a prepared state's field.
+#[cfg(feature = "prepared")]
 fn state(field: &str) -> [u32; STATE] {
     let parts: Vec<&str> = field.split(':').collect();
     let mut state = START;
@@ -390,6 +398,7 @@ impl Case<'_> {
 
     /// From the start state. Into a list that holds something else and has room to spare, that is changed by an
     /// accepted table alone, and not past the state.
+    #[cfg(feature = "prepared")]
     fn prepare(&self) -> Result<(), String> {
         self.with_table(|case, table| {
             case.steps("prepare", START, |state, answer| case.face.prepare(table, state, answer))?;
@@ -403,6 +412,7 @@ impl Case<'_> {
         })
     }
 
+    #[cfg(feature = "prepared")]
     fn append(&self) -> Result<(), String> {
         self.with_table_from(1, |case, table| {
             case.steps("append", state(case.inputs[0]), |state, answer| {
@@ -411,6 +421,7 @@ impl Case<'_> {
         })
     }
 
+    #[cfg(feature = "prepared")]
     fn go_back(&self) -> Result<(), String> {
         self.with_table_from(1, |case, table| {
             let [rows, members, entries] = [4, 5, 6].map(|input| case.number(input));
@@ -422,6 +433,7 @@ impl Case<'_> {
     }
 
     /// A step from a state to the one that is expected.
+    #[cfg(feature = "prepared")]
     fn steps(
         &self,
         what: &str,
@@ -432,6 +444,7 @@ impl Case<'_> {
         same(what, format!("{verdict} {}", state_field(&state)), &self.expected.join(" "))
     }
 
+    #[cfg(feature = "prepared")]
     fn state_check(&self) -> Result<(), String> {
         self.with_table_from(1, |case, table| {
             let (state, wire) = (state(case.inputs[0]), bytes(case.inputs[5]));

@@ -1,12 +1,16 @@
 //! The cases of the fuzz: one input each, put through every function that takes it.
 
+#[cfg(feature = "prepared")]
 mod states;
 
 use crate::compare::{Compare, Different, Given, MOST_RESULTS};
+#[cfg(feature = "prepared")]
+use crate::generate::state;
 use crate::generate::table::Lists;
-use crate::generate::{damage, header, state, table, text, values};
+use crate::generate::{damage, header, table, text, values};
 use crate::random::Random;
 use ratlinery_reference::face::Table;
+#[cfg(feature = "prepared")]
 use ratlinery_reference::prepared::START;
 use ratlinery_reference::{Epitaph, Header, Message};
 
@@ -18,13 +22,14 @@ pub fn run(compare: &mut Compare, seed: u64, case: u64) -> Result<(), (Descripti
     let mut random = Random::of_case(seed, case);
     compare.answer_room = if random.one_in(4) { random.below(MOST_RESULTS + 2) } else { MOST_RESULTS };
     compare.shift = random.below(8);
-    match random.below(26) {
+    match random.below(if cfg!(feature = "prepared") { 26 } else { 22 }) {
         0 => header_read(&mut random, compare),
         1 => header_write(&mut random, compare),
         2 => epitaph_write(&mut random, compare),
         3 => layout(&mut random, compare),
         4 => utf8(&mut random, compare),
         5..11 => write(&mut random, compare),
+        #[cfg(feature = "prepared")]
         11..15 => states::run(&mut random, compare),
         _ => read(&mut random, compare),
     }
@@ -198,7 +203,10 @@ fn read_all(
     root: u32,
     message: Message,
 ) -> Result<(), Different> {
+    #[cfg(feature = "prepared")]
     check_all(random, compare, table, root, message)?;
+    #[cfg(not(feature = "prepared"))]
+    compare.check(table, root, message)?;
     let (some, other) = (random.below(20), random.below(20));
     let (given, _) = compare.read_values(table, root, message, some)?;
     let value_numbers = needed(given, given.results[0]);
@@ -223,6 +231,7 @@ fn read_all(
 }
 
 /// The same answer with a state that agrees; then with one that may not.
+#[cfg(feature = "prepared")]
 fn check_all(
     random: &mut Random,
     compare: &mut Compare,

@@ -2,6 +2,7 @@
 //! and what must be untouched is held against what it was filled with.
 
 use ratlinery_reference::face::{Face, Table};
+#[cfg(feature = "prepared")]
 use ratlinery_reference::prepared::{Counts, STATE};
 use ratlinery_reference::{Epitaph, Header, Message};
 use std::collections::BTreeMap;
@@ -61,6 +62,7 @@ impl<T: Copy + PartialEq> Lent<T> {
     }
 
     /// What is lent holds something.
+    #[cfg(feature = "prepared")]
     fn holding(held: &[T], filled: T) -> Self {
         let guard = [filled; GUARD];
         Self::of_buffer([&guard, held, &guard].concat(), GUARD, held.len())
@@ -236,6 +238,7 @@ impl<'f> Compare<'f> {
     }
 
     /// An operation on a state, which becomes what the library made of it.
+    #[cfg(feature = "prepared")]
     fn step(
         &mut self,
         function: &'static str,
@@ -249,18 +252,22 @@ impl<'f> Compare<'f> {
         Ok(given)
     }
 
+    #[cfg(feature = "prepared")]
     pub fn prepare(&mut self, table: Table, state: &mut [u32]) -> Result<Given, Different> {
         self.step("prepare", state, |face, state, answer| face.prepare(table, state, answer))
     }
 
+    #[cfg(feature = "prepared")]
     pub fn append(&mut self, table: Table, state: &mut [u32]) -> Result<Given, Different> {
         self.step("append", state, |face, state, answer| face.append(table, state, answer))
     }
 
+    #[cfg(feature = "prepared")]
     pub fn go_back(&mut self, table: Table, to: Counts, state: &mut [u32]) -> Result<Given, Different> {
         self.step("go_back", state, |face, state, answer| face.go_back(table, to, state, answer))
     }
 
+    #[cfg(feature = "prepared")]
     pub fn check_prepared(
         &mut self,
         table: Table,

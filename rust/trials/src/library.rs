@@ -2,6 +2,7 @@
 //! length, lists that are not whole, an output at any byte.
 
 use ratlinery_reference::face::{Face, Table};
+#[cfg(feature = "prepared")]
 use ratlinery_reference::prepared::Counts;
 use ratlinery_reference::{Epitaph, Header, Message};
 use ratlinery_sys::slices::{self, Asked, Types};
@@ -81,19 +82,23 @@ impl Face for Library {
         slices::utf8(text, answer)
     }
 
+    #[cfg(feature = "prepared")]
     fn prepare(&self, table: Table, state: &mut [u32], answer: &mut [u64]) -> u32 {
         slices::prepare(types(table), state, answer)
     }
 
+    #[cfg(feature = "prepared")]
     fn append(&self, table: Table, state: &mut [u32], answer: &mut [u64]) -> u32 {
         slices::append(types(table), state, answer)
     }
 
+    #[cfg(feature = "prepared")]
     fn go_back(&self, table: Table, to: Counts, state: &mut [u32], answer: &mut [u64]) -> u32 {
         let Counts { rows, members, entries } = to;
         slices::go_back(types(table), slices::Counts { rows, members, entries }, state, answer)
     }
 
+    #[cfg(feature = "prepared")]
     fn check_prepared(
         &self,
         table: Table,

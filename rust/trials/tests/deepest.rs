@@ -1,7 +1,9 @@
 //! The deepest message that the rules accept, on a thread of 2 MiB: 33 objects, each boxed in the one before it and each
 //! 255 structs deep in line.
 
-use ratlinery::{Place, Prepared, Reading, TypeTable, row};
+#[cfg(feature = "prepared")]
+use ratlinery::{Place, Prepared};
+use ratlinery::{Reading, TypeTable, row};
 
 const STACK: usize = 2 << 20;
 const ROOT: u32 = 255;
@@ -52,6 +54,7 @@ fn deepest_message_is_checked() {
 }
 
 /// Row 0 boxes the last one, so that none can be taken off; nor is there room for one more.
+#[cfg(feature = "prepared")]
 #[test]
 fn deepest_message_is_checked_with_a_state() {
     on_small_stack(|table| {

@@ -80,22 +80,40 @@ fn every_list_of_length_0_may_be_null() {
         assert_eq!(c::ratlinery_utf8(null(), 0, word, 1), 0);
         assert_eq!(answer, [0, 0, 0]);
         assert_eq!(c::ratlinery_utf8([0xff].as_ptr(), 1, null_mut(), 0), 13);
-        assert_eq!(c::ratlinery_prepare(rows, 4, null(), 0, null(), 0, null_mut(), 0, word, 1), 22);
-        assert_eq!(answer, [515, 0, 0]);
-        assert_eq!(c::ratlinery_append(rows, 4, null(), 0, null(), 0, null_mut(), 0, word, 1), 34);
-        assert_eq!(answer, [0, 0, 0]);
-        let go_back = |to, answer, room| {
-            c::ratlinery_go_back(rows, 4, null(), 0, null(), 0, to, 0, 0, null_mut(), 0, answer, room)
-        };
-        assert_eq!(go_back(0, word, 1), 1);
-        assert_eq!(answer, [256, 0, 0]);
-        assert_eq!(go_back(1, word, 1), 34);
-        assert_eq!(go_back(1, null_mut(), 0), 34);
-        assert_eq!(
-            c::ratlinery_check_prepared(rows, 4, null(), 0, null(), 0, null(), 0, 0, message, 8, 0, word, 1),
-            34
-        );
-        assert_eq!(answer, [0, 0, 0]);
+        #[cfg(feature = "prepared")]
+        {
+            assert_eq!(c::ratlinery_prepare(rows, 4, null(), 0, null(), 0, null_mut(), 0, word, 1), 22);
+            assert_eq!(answer, [515, 0, 0]);
+            assert_eq!(c::ratlinery_append(rows, 4, null(), 0, null(), 0, null_mut(), 0, word, 1), 34);
+            assert_eq!(answer, [0, 0, 0]);
+            let go_back = |to, answer, room| {
+                c::ratlinery_go_back(rows, 4, null(), 0, null(), 0, to, 0, 0, null_mut(), 0, answer, room)
+            };
+            assert_eq!(go_back(0, word, 1), 1);
+            assert_eq!(answer, [256, 0, 0]);
+            assert_eq!(go_back(1, word, 1), 34);
+            assert_eq!(go_back(1, null_mut(), 0), 34);
+            assert_eq!(
+                c::ratlinery_check_prepared(
+                    rows,
+                    4,
+                    null(),
+                    0,
+                    null(),
+                    0,
+                    null(),
+                    0,
+                    0,
+                    message,
+                    8,
+                    0,
+                    word,
+                    1
+                ),
+                34
+            );
+            assert_eq!(answer, [0, 0, 0]);
+        }
     }
 }
 

@@ -1,5 +1,7 @@
 //! Prepared states, through the C face: every length of the list, every number of it, and tables built up row by row.
 
+#![cfg(feature = "prepared")]
+
 use ratlinery::{Place, Prepared, Reason, TypeTable, row};
 use ratlinery_reference::Message;
 use ratlinery_reference::face::{Face, Table};

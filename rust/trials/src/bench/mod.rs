@@ -2,6 +2,7 @@
 
 pub mod measure;
 pub mod plot;
+#[cfg(feature = "prepared")]
 pub mod prepared;
 pub mod report;
 pub mod texts;

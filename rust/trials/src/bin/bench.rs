@@ -7,6 +7,7 @@
 
 use ratlinery_trials::bench::measure::{Operation, times};
 use ratlinery_trials::bench::plot;
+#[cfg(feature = "prepared")]
 use ratlinery_trials::bench::prepared::{checked, grown, print_prepared};
 use ratlinery_trials::bench::report::{Growth, Measured, print_growth, print_workloads};
 use ratlinery_trials::bench::texts::{judged, print_texts};
@@ -26,6 +27,7 @@ fn main() -> ExitCode {
         tables().iter().map(|workload| measured(workload, &[Operation::Layout])).collect();
     let mut missed = print_workloads(workloads.iter().chain(&tables));
     missed.extend(print_texts(&judged()));
+    #[cfg(feature = "prepared")]
     missed.extend(print_prepared(&checked(), &grown()));
     let sized = |workload: &Workload| measured(workload, &Operation::OF_MESSAGES[..3]);
     let growths: Vec<Growth> = growing()
@@ -36,9 +38,10 @@ fn main() -> ExitCode {
 
     println!(
         "\nratio: Ratlinery / reference; targets: check and read 1.5, write 2, growth no more than linear, \
-         layout under a millisecond, long texts 1.1 times from_utf8, a check with a state 1.1 times one without, an \
-         append 1.1 times preparing the whole."
+         layout under a millisecond, long texts 1.1 times from_utf8."
     );
+    #[cfg(feature = "prepared")]
+    println!("of states: a check with one 1.1 times one without, an append 1.1 times preparing the whole.");
     println!("The fastest of 15 turns counts; buffers are reused and not cleared.");
     match &missed[..] {
         [] => println!("All targets are met."),

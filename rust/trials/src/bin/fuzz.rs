@@ -55,11 +55,12 @@ fn given(tally: &Tally, function: &str, number: u32) -> u64 {
 }
 
 /// Each function with the numbers that it can give.
-fn can_give() -> [(&'static str, Vec<u32>); 14] {
+fn can_give() -> Vec<(&'static str, Vec<u32>)> {
     let judged: Vec<u32> = (0..=21).chain([28, 29, 35]).collect();
     let read: Vec<u32> = judged.iter().copied().chain([22]).collect();
+    #[cfg(feature = "prepared")]
     let prepared: Vec<u32> = judged.iter().copied().chain([34]).collect();
-    [
+    vec![
         ("layout", vec![0, 1, 2]),
         ("check", judged),
         ("read", read.clone()),
@@ -70,9 +71,13 @@ fn can_give() -> [(&'static str, Vec<u32>); 14] {
         ("header_write", vec![0, 22, 24, 25]),
         ("epitaph_write", vec![0, 22]),
         ("utf8", vec![0, 13]),
+        #[cfg(feature = "prepared")]
         ("prepare", vec![0, 1, 22]),
+        #[cfg(feature = "prepared")]
         ("append", vec![0, 1, 34]),
+        #[cfg(feature = "prepared")]
         ("go_back", vec![0, 1, 34]),
+        #[cfg(feature = "prepared")]
         ("check_prepared", prepared),
     ]
 }
@@ -89,17 +94,18 @@ fn missing(tally: &Tally) -> Vec<String> {
 
 /// A line for each number that was given, a column for each function.
 fn print_tally(tally: &Tally) {
-    print!("number {:>14}", "all");
-    tally.keys().for_each(|function| print!(" {function:>14}"));
+    let width = if cfg!(feature = "prepared") { 14 } else { 13 };
+    print!("number {:>width$}", "all");
+    tally.keys().for_each(|function| print!(" {function:>width$}"));
     println!();
     let numbers: BTreeSet<u32> = tally.values().flat_map(BTreeMap::keys).copied().collect();
     for number in numbers {
         let all: u64 = tally.keys().map(|function| given(tally, function, number)).sum();
-        print!("{number:>6} {all:>14}");
+        print!("{number:>6} {all:>width$}");
         for function in tally.keys() {
             match given(tally, function, number) {
-                0 => print!(" {:>14}", "."),
-                count => print!(" {count:>14}"),
+                0 => print!(" {:>width$}", "."),
+                count => print!(" {count:>width$}"),
             }
         }
         println!();

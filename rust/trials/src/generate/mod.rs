@@ -2,6 +2,7 @@
 
 pub mod damage;
 pub mod header;
+#[cfg(feature = "prepared")]
 pub mod state;
 pub mod strict;
 pub mod table;

@@ -1,0 +1,5 @@
+-- `listing::lines::put_number` calls itself with the quotient, which is smaller.
+use Rattle.listing.proofs.lines.+put_number.Given as goal
+
+abbrev pub decreases-put_number : goal.decreases-put_number
+decreases-put_number l = l.n

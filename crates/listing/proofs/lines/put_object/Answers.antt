@@ -1,0 +1,10 @@
+-- `listing::lines::put_object` meets its contract: four numbers, each behind its label, then a line feed.
+use Rattle.listing.proofs.Putting.{puts_then}
+use Rattle.listing.proofs.lines.put_object.Goals as goal
+
+pub returns : goal.returns
+returns c =
+    puts_then c.put_field-after_kind.ensures
+    (puts_then c.put_field-after_row.ensures
+    (puts_then c.put_field-after_offset.ensures
+    (puts_then c.put_field-after_size.ensures c.put_byte.ensures)))

@@ -1,0 +1,12 @@
+-- `stream::to_words` meets its contract. The loop's invariant: storing on comes to the same as storing all. The measure is
+-- what is left of the numbers.
+use Prim.Native.Nat.{◌-◌}
+use lib.ListN.{length}
+use Rattle.stream.proofs.Laws.{Stores}
+use Rattle.stream.proofs.to_words.Given as goal
+
+abbrev pub invariant-loop-at : goal.invariant-loop-at
+invariant-loop-at l = Stores 4294967296 l.numbers l.initial.words l.at l.words
+
+abbrev pub decreases-loop-at : goal.decreases-loop-at
+decreases-loop-at l = length l.numbers - l.at

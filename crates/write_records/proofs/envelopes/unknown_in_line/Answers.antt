@@ -1,0 +1,34 @@
+-- `unknown_in_line` meets its contract: a law for each way that it ends.
+use native.Mathlib.Omega.{arith}
+use borrow.Author.Rules.{rules}
+use Rattle.rules.specs.Envelope.{payload_in_line}
+use Rattle.write_leaves.proofs.InLine.{took_held, took_some}
+use Rattle.write_records.proofs.UnknownContent.{room, in_line_ended, in_line_many, in_line_handles_over, in_line_wordless, in_line_large, in_line_put}
+use Rattle.write_records.proofs.envelopes.unknown_in_line.Goals as goal
+
+pub returns-then-values-c : goal.returns-then-values-c
+returns-then-values-c c = search (rules, in_line_ended)
+
+pub returns-then-not-can_claim : goal.returns-then-not-can_claim
+returns-then-not-can_claim c = search (rules, in_line_many)
+
+pub with_handles-requires : goal.with_handles-requires
+with_handles-requires c =
+    (omega (arith, room payload_in_line c.value_at-handles.result c.can_claim.ensures c.if-not-can_claim.false), search (rules, took_held), search (rules, took_some))
+
+pub returns-then-values-d : goal.returns-then-values-d
+returns-then-values-d c = search (rules, in_line_wordless)
+
+pub returns-then-word-gt4294967295 : goal.returns-then-word-gt4294967295
+returns-then-word-gt4294967295 c = search (rules, in_line_large)
+
+pub overflow_cast-handles : goal.overflow_cast-handles
+overflow_cast-handles c =
+    omega (arith, room payload_in_line c.value_at-handles.result c.can_claim.ensures c.if-not-can_claim.false)
+
+pub returns-in-Refused : goal.returns-in-Refused
+returns-in-Refused c = search (rules, in_line_handles_over)
+
+pub returns-else-word-gt4294967295 : goal.returns-else-word-gt4294967295
+returns-else-word-gt4294967295 c =
+    search (rules, in_line_put, c.can_claim.ensures, c.if-not-can_claim.false)

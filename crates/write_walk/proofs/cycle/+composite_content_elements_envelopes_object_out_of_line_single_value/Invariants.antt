@@ -1,0 +1,64 @@
+-- The eight functions of cycle.rt that call each other meet their contracts. For each function: what its callees promise, its
+-- loop's invariant and measure, and an answer to each need that `search rules` does not find; those that it finds stand at the
+-- end, where all is put together.
+--
+-- What falls at each call: 1,048,576 times the depth left, plus four times the row, plus the elements or envelopes left. What is
+-- added last keeps functions apart that call each other on one row and one depth.
+use mathlib.Core.Path.{◌≡◌}
+use Prim.Native.Nat.{◌+◌, ◌-◌, ◌*◌, ◌≤◌}
+use lib.ListN.{length}
+use Rattle.rules.specs.TypeTable.{type_table}
+use Rattle.rules.specs.Sizes.{size_of}
+use Rattle.rules.specs.Encode as E
+use Rattle.layout.specs.Ready.{Ready}
+use Rattle.nesting.proofs.Runs.{RunLeft}
+use Rattle.nesting.proofs.Steps.{fuel}
+use Rattle.write_walk.specs.Walking.{write_row}
+use Rattle.write_leaves.proofs.Writing.{writing}
+use Rattle.write_walk.proofs.Composite.{Writing}
+use Rattle.write_walk.proofs.TableEnvelopes.{EnvelopesLeft}
+use Rattle.write_walk.proofs.cycle.+composite_content_elements_envelopes_object_out_of_line_single_value.Given as goal
+
+abbrev pub decreases-composite : goal.decreases-composite
+decreases-composite l = l.depth * 1048576 + 4 * l.row + 1
+
+abbrev pub decreases-content : goal.decreases-content
+decreases-content l = l.depth * 1048576
+
+abbrev pub decreases-elements : goal.decreases-elements
+decreases-elements l = l.depth * 1048576 + 4 * l.row + 3 + l.count
+
+abbrev pub decreases-envelopes : goal.decreases-envelopes
+decreases-envelopes l = l.depth * 1048576 + 1 + l.count
+
+abbrev pub decreases-object : goal.decreases-object
+decreases-object l = l.depth * 1048576 + 4 * l.row + 4 + l.x.count
+
+abbrev pub decreases-out_of_line : goal.decreases-out_of_line
+decreases-out_of_line l = l.depth * 1048576 + 4 * l.row + 1
+
+abbrev pub decreases-single : goal.decreases-single
+decreases-single l = l.depth * 1048576 + 4 * l.row + 3
+
+abbrev pub decreases-value : goal.decreases-value
+decreases-value l = l.depth * 1048576 + 4 * l.row + 2
+
+abbrev pub invariant-composite-loop-next : goal.invariant-composite-loop-next
+invariant-composite-loop-next l = Ready (type_table l.rows l.members l.entries) l.sizes l.alignments l.depth l.row × Writing (record { row = 0; done = 0; at = 0 }) (type_table l.rows l.members l.entries) l.alignments l.values l.base l.depth l.row l.at l.initial.out l.initial.d l.out l.kept l.around l.level l.due l.place l.d
+
+abbrev pub decreases-composite-loop-next : goal.decreases-composite-loop-next
+decreases-composite-loop-next l = fuel l.rows l.level l.due l.place l.around
+
+abbrev pub invariant-elements-loop-left : goal.invariant-elements-loop-left
+invariant-elements-loop-left l = RunLeft (writing l.values l.base) (size_of (type_table l.rows l.members l.entries) l.row) (λ k. write_row (type_table l.rows l.members l.entries) l.depth l.row) (l.count * size_of (type_table l.rows l.members l.entries) l.row) l.at
+    (E.elements (λ k. write_row (type_table l.rows l.members l.entries) l.depth l.row) 0 l.count) l.initial.out l.initial.d l.out l.d 0 l.left l.place
+    × (length l.out ≡ length l.initial.out)
+
+abbrev pub decreases-elements-loop-left : goal.decreases-elements-loop-left
+decreases-elements-loop-left l = l.left
+
+abbrev pub invariant-envelopes-loop-i : goal.invariant-envelopes-loop-i
+invariant-envelopes-loop-i l = EnvelopesLeft (type_table l.rows l.members l.entries) l.values l.base l.depth l.row l.count l.initial.out l.out l.initial.d l.d l.i × (l.i ≤ l.count) × (length l.out ≡ length l.initial.out)
+
+abbrev pub decreases-envelopes-loop-i : goal.decreases-envelopes-loop-i
+decreases-envelopes-loop-i l = l.count - l.i
