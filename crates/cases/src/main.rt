@@ -3,9 +3,12 @@
 // the stream from the vector files, and finds the vector that a line was made from.
 #![tactic(auto)]
 
-ghost use Rattle.std.specs.Prelude.{◌≡◌, ◌≤◌, length};
+ghost use Rattle.std.specs.Prelude.{◌≤◌};
 
-use std::io;
+use rules::{Fault, Layout};
+use std::{fmt, io};
+use stream::{Narrow, same, split_list};
+use words::item_at;
 
 // Room for the bytes of a message.
 const MESSAGE_ROOM: usize = 4096;
@@ -19,13 +22,10 @@ const OUTPUT_ROOM: usize = 2048;
 // More than the value list or the object list of any case.
 const NUMBERS_ROOM: usize = 256;
 
-// Operations are numbered from 1 on; as 0 counts a case that names none of them.
-const OPERATIONS: usize = 10;
-
 const FAILURES_SHOWN: usize = 8;
 
 fn main(rt: HostRuntime) -> io::Result<()> {
-    let mut text = stream::text_room();
+    let mut text: [u8; stream::TEXT_ROOM] = stream::room(0);
     let count = console::read_full(&mut rt.stdin(), &mut text)?;
     if count == stream::TEXT_ROOM {
         return println!(rt; "the stream is too long");
@@ -34,328 +34,148 @@ fn main(rt: HostRuntime) -> io::Result<()> {
 }
 
 fn run(rt: &impl Print, text: &[u8]) -> io::Result<()> {
-    let mut numbers = stream::line_room();
-    let mut passed = [0u64; OPERATIONS];
-    let mut failed = [0u64; OPERATIONS];
+    let mut numbers = [0u64; stream::LINE_ROOM];
+    let mut tallies = [Tally::default(); OPERATIONS.len()];
     let mut failures: usize = 0;
     let mut line: usize = 0;
-    let mut at = 0;
-    while at < text.len() {
-        let read = stream::read_line(text, at, &mut numbers);
-        at = read.next;
+    let mut rest = text;
+    // Not `for`: where a line ends is known when it is read.
+    while !rest.is_empty() {
+        let read = stream::read_line(rest, &mut numbers);
+        rest = read.rest;
         line += 1;
         let case = stream::first(&numbers, read.count);
-        let operation = operation_of(case);
-        if passes(operation, case) {
-            count_one(&mut passed, operation);
+        let operation = Operation::from(item_at(case, 0));
+        let passed = operation.passes(stream::rest(case, 1));
+        tallies[operation as usize].count(passed);
+        if passed {
             continue;
         }
-        count_one(&mut failed, operation);
-        show_failure(rt, failures, operation, line)?;
+        // The first failures are named by their line in the stream.
+        if failures < FAILURES_SHOWN {
+            println!(rt; "{operation}: line {line} failed")?;
+        }
         failures += 1;
     }
-    report(rt, &passed, &failed)
+    report(rt, &tallies)
 }
 
-fn operation_of(case: &[u64]) -> usize {
-    let operation = words::value_at(case, 0) as usize;
-    if operation < OPERATIONS { operation } else { 0 }
+// How many cases of an operation passed, and how many failed.
+#[derive(Clone, Copy, Default)]
+struct Tally {
+    passed: u64,
+    failed: u64,
 }
 
-fn count_one(counts: &mut [u64; OPERATIONS], operation: usize) {
-    if operation < OPERATIONS {
-        if counts[operation] < u64::MAX {
-            counts[operation] += 1;
+impl Tally {
+    fn count(&mut self, passed: bool) {
+        if passed {
+            self.passed = self.passed.saturating_add(1);
+        } else {
+            self.failed = self.failed.saturating_add(1);
         }
     }
 }
 
-// The first failures are named by their line in the stream.
-fn show_failure(rt: &impl Print, failures: usize, operation: usize, line: usize) -> io::Result<()> {
-    if failures < FAILURES_SHOWN {
-        write_name(rt, operation)?;
-        println!(rt; ": line {line} failed")?;
+fn report(rt: &impl Print, tallies: &[Tally; OPERATIONS.len()]) -> io::Result<()> {
+    for (operation, tally) in OPERATIONS.iter().zip(tallies) {
+        println!(rt;
+            "{operation}: {} passed, {} failed",
+            tally.passed, tally.failed
+        )?;
     }
     Ok(())
 }
 
-fn report(
-    rt: &impl Print,
-    passed: &[u64; OPERATIONS],
-    failed: &[u64; OPERATIONS],
-) -> io::Result<()> {
-    let mut operation = 0;
-    while operation < OPERATIONS {
-        write_counts(rt, operation, passed[operation], failed[operation])?;
-        operation += 1;
-    }
-    Ok(())
+// ---- operations: for each a variant, a line in the list and in the three functions after it, a function of its own, and a
+// line in vectors/make.py
+
+#[derive(Clone, Copy)]
+enum Operation {
+    Unknown,
+    Utf8,
+    Sound,
+    Layout,
+    HeaderRead,
+    HeaderWrite,
+    Check,
+    Read,
+    Write,
+    EpitaphWrite,
 }
 
-fn write_counts(rt: &impl Print, operation: usize, passed: u64, failed: u64) -> io::Result<()> {
-    write_name(rt, operation)?;
-    println!(rt; ": {passed} passed, {failed} failed")
-}
+const OPERATIONS: [Operation; 10] = [
+    Operation::Unknown,
+    Operation::Utf8,
+    Operation::Sound,
+    Operation::Layout,
+    Operation::HeaderRead,
+    Operation::HeaderWrite,
+    Operation::Check,
+    Operation::Read,
+    Operation::Write,
+    Operation::EpitaphWrite,
+];
 
-// The contract gives the length alone, so that no proof goes into a long list.
-fn message_room() -> [u8; MESSAGE_ROOM]
-    ensures { 4096 ≡ length result }
-{
-    [0; MESSAGE_ROOM]
-}
-
-// ---- operations: for each a line in these two functions, a function of its own, and a line in vectors/make.py. A function is
-// handed the numbers of a case after its operation's number.
-
-fn write_name(rt: &impl Print, operation: usize) -> io::Result<()> {
-    match operation {
-        1 => rt.print("utf8"),
-        2 => rt.print("sound"),
-        3 => rt.print("layout"),
-        4 => rt.print("header_read"),
-        5 => rt.print("header_write"),
-        6 => rt.print("check"),
-        7 => rt.print("read"),
-        8 => rt.print("write"),
-        9 => rt.print("epitaph_write"),
-        _ => rt.print("no operation"),
-    }
-}
-
-fn passes(operation: usize, case: &[u64]) -> bool {
-    let numbers = stream::rest(case, 1);
-    match operation {
-        1 => utf8(numbers),
-        2 => sound(numbers),
-        3 => layout_of(numbers),
-        4 => header_read(numbers),
-        5 => header_write(numbers),
-        6 => check(numbers),
-        7 => read(numbers),
-        8 => write(numbers),
-        9 => epitaph_write(numbers),
-        _ => false,
+impl From<u64> for Operation {
+    fn from(number: u64) -> Operation {
+        match number {
+            1 => Operation::Utf8,
+            2 => Operation::Sound,
+            3 => Operation::Layout,
+            4 => Operation::HeaderRead,
+            5 => Operation::HeaderWrite,
+            6 => Operation::Check,
+            7 => Operation::Read,
+            8 => Operation::Write,
+            9 => Operation::EpitaphWrite,
+            _ => Operation::Unknown,
+        }
     }
 }
 
-// The message, the place and the count; number and place.
-fn utf8(case: &[u64]) -> bool {
-    let numbers = stream::list(case, 0);
-    let mut message = message_room();
-    let count = stream::to_bytes(numbers, &mut message);
-    let next = 1 + numbers.len();
-    let at = words::value_at(case, next) as usize;
-    let length = words::value_at(case, next + 1) as usize;
-    let bytes = &message[..count];
-    let answer = stream::rest(case, next + 2);
-    match text::judge_part(bytes, at, length) {
-        text::Text::Valid => stream::same(answer, &[0, 0]) & text::is_utf8(bytes, at, length),
-        text::Text::Broken(start) => stream::same(answer, &[13, start as u64])
-            & !text::is_utf8(bytes, at, length),
+impl fmt::Display for Operation {
+    fn fmt<W: fmt::Write>(&self, f: &mut fmt::Formatter<W>) -> fmt::Result {
+        f.write_str(match self {
+            Operation::Unknown => "no operation",
+            Operation::Utf8 => "utf8",
+            Operation::Sound => "sound",
+            Operation::Layout => "layout",
+            Operation::HeaderRead => "header_read",
+            Operation::HeaderWrite => "header_write",
+            Operation::Check => "check",
+            Operation::Read => "read",
+            Operation::Write => "write",
+            Operation::EpitaphWrite => "epitaph_write",
+        })
     }
 }
 
-// The row list, the member list and the entries; number and place.
-fn sound(case: &[u64]) -> bool {
-    let mut rows = [0u32; LIST_ROOM];
-    let mut members = [0u32; LIST_ROOM];
-    let t = stream::put_table(case, &mut rows, &mut members);
-    let entries = stream::list(case, t.entries);
-    let mut sizes = [0u32; 256];
-    let mut alignments = [0u32; 256];
-    let verdict = layout::prepare(
-        &rows[..t.rows],
-        &members[..t.members],
-        entries,
-        &mut sizes,
-        &mut alignments,
-    );
-    let answer = stream::rest(case, t.next);
-    match verdict {
-        layout::Soundness::Sound => stream::same(answer, &[0, 0]),
-        layout::Soundness::Refused(f) => stream::same(
-            answer,
-            &[f.number as u64, rules::place_number(f)],
-        ),
+impl Operation {
+    // A case is handed on without its operation's number.
+    fn passes(self, case: &[u64]) -> bool {
+        match self {
+            Operation::Unknown => false,
+            Operation::Utf8 => utf8(case),
+            Operation::Sound => sound(case),
+            Operation::Layout => layout_of(case),
+            Operation::HeaderRead => header_read(case),
+            Operation::HeaderWrite => header_write(case),
+            Operation::Check => check(case),
+            Operation::Read => read(case),
+            Operation::Write => write(case),
+            Operation::EpitaphWrite => epitaph_write(case),
+        }
     }
 }
 
-// The three lists of a type table and the row; number, place, size and alignment.
-fn layout_of(case: &[u64]) -> bool {
-    let mut rows = [0u32; LIST_ROOM];
-    let mut members = [0u32; LIST_ROOM];
-    let t = stream::put_table(case, &mut rows, &mut members);
-    let entries = stream::list(case, t.entries);
-    let row = (words::value_at(case, t.next) % 4294967296) as u32;
-    let answer = stream::rest(case, t.next + 1);
-    match layout::layout_of(&rows[..t.rows], &members[..t.members], entries, row) {
-        layout::LayoutAnswer::Laid(l) => stream::same(
-            answer,
-            &[0, 0, l.size as u64, l.alignment as u64],
-        ),
-        layout::LayoutAnswer::Refused(f) => stream::same(
-            answer,
-            &[f.number as u64, rules::place_number(f), 0, 0],
-        ),
-    }
-}
+// ---- what a case says of an answer
 
-// The three lists of a type table, the root, the message and the handle count; number and place.
-fn check(case: &[u64]) -> bool {
-    let mut rows = [0u32; LIST_ROOM];
-    let mut members = [0u32; LIST_ROOM];
-    let t = stream::put_table(case, &mut rows, &mut members);
-    let entries = stream::list(case, t.entries);
-    let root = (words::value_at(case, t.next) % 4294967296) as u32;
-    let numbers = stream::list(case, t.next + 1);
-    let mut message = message_room();
-    let count = stream::to_bytes(numbers, &mut message);
-    let next = t.next + 2 + numbers.len();
-    let handles = words::value_at(case, next);
-    let answer = stream::rest(case, next + 1);
-    match reader::check(
-        &rows[..t.rows],
-        &members[..t.members],
-        entries,
-        root,
-        &message[..count],
-        handles,
-    ) {
-        reader::Verdict::Accepted => stream::same(answer, &[0, 0]),
-        reader::Verdict::Refused(f) => stream::same(
-            answer,
-            &[f.number as u64, rules::place_number(f)],
-        ),
-    }
-}
-
-// The same, then the rooms of the value list and of the object list; number, place, and both lists.
-fn read(case: &[u64]) -> bool {
-    let mut rows = [0u32; LIST_ROOM];
-    let mut members = [0u32; LIST_ROOM];
-    let t = stream::put_table(case, &mut rows, &mut members);
-    let entries = stream::list(case, t.entries);
-    let root = (words::value_at(case, t.next) % 4294967296) as u32;
-    let numbers = stream::list(case, t.next + 1);
-    let mut message = message_room();
-    let count = stream::to_bytes(numbers, &mut message);
-    let next = t.next + 2 + numbers.len();
-    let handles = words::value_at(case, next);
-    let rest = stream::rest(case, next + 1);
-    read_all(
-        &rows[..t.rows],
-        &members[..t.members],
-        entries,
-        root,
-        &message[..count],
-        handles,
-        rest,
-    )
-}
-
-fn read_all(
-    rows: &[u32],
-    members: &[u32],
-    entries: &[u64],
-    root: u32,
-    message: &[u8],
-    handles: u64,
-    rest: &[u64],
-) -> bool {
-    read_both(rows, members, entries, root, message, handles, rest)
-        & read_each(rows, members, entries, root, message, handles, rest)
-}
-
-// Both lists at once. They are lent full of ones: past what was given, and on a refusal everywhere, those must still be
-// there.
-fn read_both(
-    rows: &[u32],
-    members: &[u32],
-    entries: &[u64],
-    root: u32,
-    message: &[u8],
-    handles: u64,
-    rest: &[u64],
-) -> bool {
-    let mut values = [u64::MAX; NUMBERS_ROOM];
-    let mut objects = [u32::MAX; NUMBERS_ROOM];
-    let values_room = room_of(words::value_at(rest, 0), NUMBERS_ROOM);
-    let objects_room = room_of(words::value_at(rest, 1), NUMBERS_ROOM);
-    let answer = stream::first(stream::rest(rest, 2), 2);
-    let given_values = stream::list(rest, 4);
-    let given_objects = stream::list(rest, 5 + given_values.len());
-    let right = match reader::read(
-        rows,
-        members,
-        entries,
-        root,
-        message,
-        handles,
-        &mut values[..values_room],
-        &mut objects[..objects_room],
-    ) {
-        reader::Reading::Accepted(n) => stream::same(answer, &[0, 0])
-            & (n.values == given_values.len())
-            & (n.objects == given_objects.len()),
-        reader::Reading::Refused(f) => stream::same(
-            answer,
-            &[f.number as u64, rules::place_number(f)],
-        ),
-    };
-    right & values_are(&values, given_values) & objects_are(&objects, given_objects)
-}
-
-// Each list by itself, in the same way. A case of 22 does not tell how one list alone would do.
-fn read_each(
-    rows: &[u32],
-    members: &[u32],
-    entries: &[u64],
-    root: u32,
-    message: &[u8],
-    handles: u64,
-    rest: &[u64],
-) -> bool {
-    let mut values = [u64::MAX; NUMBERS_ROOM];
-    let mut objects = [u32::MAX; NUMBERS_ROOM];
-    let values_room = room_of(words::value_at(rest, 0), NUMBERS_ROOM);
-    let objects_room = room_of(words::value_at(rest, 1), NUMBERS_ROOM);
-    let answer = stream::first(stream::rest(rest, 2), 2);
-    if words::value_at(answer, 0) == 22 {
-        return true;
-    }
-    let given_values = stream::list(rest, 4);
-    let given_objects = stream::list(rest, 5 + given_values.len());
-    let of_values = reader::read_values(
-        rows,
-        members,
-        entries,
-        root,
-        message,
-        handles,
-        &mut values[..values_room],
-    );
-    let of_objects = reader::read_objects(
-        rows,
-        members,
-        entries,
-        root,
-        message,
-        handles,
-        &mut objects[..objects_room],
-    );
-    gives(of_values, answer, given_values.len())
-        & gives(of_objects, answer, given_objects.len())
-        & values_are(&values, given_values)
-        & objects_are(&objects, given_objects)
-}
-
-fn gives(given: reader::Given, answer: &[u64], count: usize) -> bool {
-    match given {
-        reader::Given::Accepted(n) => stream::same(answer, &[0, 0]) & (n == count),
-        reader::Given::Refused(f) => stream::same(
-            answer,
-            &[f.number as u64, rules::place_number(f)],
-        ),
+// Number and place of a refusal; both are 0 where nothing is refused.
+fn number_and_place<T>(answer: &Result<T, Fault>) -> [u64; 2] {
+    match answer {
+        Ok(_) => [0, 0],
+        Err(f) => [u64::from(f.number), rules::place_number(*f)],
     }
 }
 
@@ -363,195 +183,350 @@ fn gives(given: reader::Given, answer: &[u64], count: usize) -> bool {
 fn room_of(room: u64, most: usize) -> usize
     ensures { result ≤ most }
 {
-    if room < most as u64 {
-        room as usize
-    } else {
-        most
+    room.min(most as u64) as usize
+}
+
+// Whether a list that was lent full of ones holds just these numbers, and ones after them.
+fn holds<T: Copy + Into<u64>>(list: &[T], ones: T, given: &[u64]) -> bool {
+    given.len() <= list.len()
+        && list[..given.len()]
+            .iter()
+            .zip(given)
+            .all(|(held, number)| (*held).into() == *number)
+        && list[given.len()..]
+            .iter()
+            .all(|held| (*held).into() == ones.into())
+}
+
+// An object list as wide as the numbers of a case: all ones stay all ones.
+fn widened(objects: &[u32; NUMBERS_ROOM]) -> [u64; NUMBERS_ROOM] {
+    let mut wide = [u64::MAX; NUMBERS_ROOM];
+    for (at, object) in objects.iter().enumerate() {
+        if *object != u32::MAX {
+            wide[at] = u64::from(*object);
+        }
+    }
+    wide
+}
+
+// The message, the place and the count; number and place.
+fn utf8(case: &[u64]) -> bool {
+    let mut message = [0u8; MESSAGE_ROOM];
+    let (numbers, rest) = split_list(case);
+    let count = stream::put_narrow(numbers, &mut message);
+    let bytes = &message[..count];
+    let at = item_at(rest, 0) as usize;
+    let length = item_at(rest, 1) as usize;
+    let answer = stream::rest(rest, 2);
+    match text::judge_part(bytes, at, length) {
+        Ok(()) => same(answer, &[0, 0]) && text::is_utf8(bytes, at, length),
+        Err(start) => same(answer, &[13, start as u64]) && !text::is_utf8(bytes, at, length),
     }
 }
 
-// Whether a list that was full of ones holds just these numbers, and ones after them.
-fn values_are(values: &[u64; NUMBERS_ROOM], given: &[u64]) -> bool {
-    let mut right = given.len() <= NUMBERS_ROOM;
-    let mut at = 0;
-    while at < NUMBERS_ROOM {
-        let number = if at < given.len() {
-            given[at]
-        } else {
-            u64::MAX
+// The row list, the member list and the entries; number and place.
+fn sound(case: &[u64]) -> bool {
+    let mut rows = [0u32; LIST_ROOM];
+    let mut members = [0u32; LIST_ROOM];
+    let table = stream::put_table(case, &mut rows, &mut members);
+    let mut sizes = [0u32; 256];
+    let mut alignments = [0u32; 256];
+    let verdict = layout::prepare(
+        &rows[..table.rows],
+        &members[..table.members],
+        table.entries,
+        &mut sizes,
+        &mut alignments,
+    );
+    same(table.rest, &number_and_place(&verdict))
+}
+
+// The three lists of a type table and the row; number, place, size and alignment.
+fn layout_of(case: &[u64]) -> bool {
+    let mut rows = [0u32; LIST_ROOM];
+    let mut members = [0u32; LIST_ROOM];
+    let table = stream::put_table(case, &mut rows, &mut members);
+    let row = u32::narrow(item_at(table.rest, 0));
+    let answer = layout::layout_of(
+        &rows[..table.rows],
+        &members[..table.members],
+        table.entries,
+        row,
+    );
+    let [number, place] = number_and_place(&answer);
+    let layout = answer.unwrap_or(Layout {
+        size: 0,
+        alignment: 0,
+    });
+    same(
+        stream::rest(table.rest, 1),
+        &[number, place, layout.size as u64, layout.alignment as u64],
+    )
+}
+
+// A type table, and a message under it.
+#[derive(Clone, Copy)]
+struct Request<'a> {
+    rows: &'a [u32],
+    members: &'a [u32],
+    entries: &'a [u64],
+    root: u32,
+    message: &'a [u8],
+    handles: u64,
+}
+
+// Room for a type table and for a message.
+#[derive(Drop)]
+struct Rooms {
+    rows: [u32; LIST_ROOM],
+    members: [u32; LIST_ROOM],
+    message: [u8; MESSAGE_ROOM],
+}
+
+impl Rooms {
+    fn new() -> Rooms {
+        Rooms {
+            rows: [0; LIST_ROOM],
+            members: [0; LIST_ROOM],
+            message: [0; MESSAGE_ROOM],
+        }
+    }
+
+    // The three lists of a type table, the root, the message and the handle count; and the numbers after them.
+    fn request<'a>(&'a mut self, case: &'a [u64]) -> (Request<'a>, &'a [u64]) {
+        let Rooms {
+            rows,
+            members,
+            message,
+        } = self;
+        let table = stream::put_table(case, rows, members);
+        let root = u32::narrow(item_at(table.rest, 0));
+        let (numbers, rest) = split_list(stream::rest(table.rest, 1));
+        let count = stream::put_narrow(numbers, message);
+        let handles = item_at(rest, 0);
+        let after = stream::rest(rest, 1);
+        let request = Request {
+            rows: &rows[..table.rows],
+            members: &members[..table.members],
+            entries: table.entries,
+            root,
+            message: &message[..count],
+            handles,
         };
-        right = right & (values[at] == number);
-        at += 1;
+        (request, after)
     }
-    right
 }
 
-fn widened(number: u32) -> u64 {
-    number as u64
+// A request; number and place.
+fn check(case: &[u64]) -> bool {
+    let mut rooms = Rooms::new();
+    let (r, answer) = rooms.request(case);
+    let verdict = reader::check(r.rows, r.members, r.entries, r.root, r.message, r.handles);
+    same(answer, &number_and_place(&verdict))
 }
 
-fn objects_are(objects: &[u32; NUMBERS_ROOM], given: &[u64]) -> bool {
-    let mut wide = [0u64; NUMBERS_ROOM];
-    let mut at = 0;
-    while at < NUMBERS_ROOM {
-        let number = objects[at];
-        wide[at] = if number == u32::MAX {
-            u64::MAX
-        } else {
-            widened(number)
-        };
-        at += 1;
+// A request, then the rooms of the value list and of the object list; number, place, and both lists.
+fn read(case: &[u64]) -> bool {
+    let mut rooms = Rooms::new();
+    let (r, rest) = rooms.request(case);
+    let (values, after_values) = split_list(stream::rest(rest, 4));
+    let (objects, _) = split_list(after_values);
+    let lists = Lists {
+        values_room: item_at(rest, 0),
+        objects_room: item_at(rest, 1),
+        answer: stream::first(stream::rest(rest, 2), 2),
+        values,
+        objects,
+    };
+    read_both(r, lists) && read_each(r, lists)
+}
+
+// What a case says of the lists of a message. They are lent full of ones: past what was given, and on a refusal everywhere,
+// those must still be there.
+#[derive(Clone, Copy)]
+struct Lists<'a> {
+    values_room: u64,
+    objects_room: u64,
+    answer: &'a [u64],
+    values: &'a [u64],
+    objects: &'a [u64],
+}
+
+// Both lists at once.
+fn read_both(r: Request<'_>, lists: Lists<'_>) -> bool {
+    let values_room = room_of(lists.values_room, NUMBERS_ROOM);
+    let objects_room = room_of(lists.objects_room, NUMBERS_ROOM);
+    let mut values = [u64::MAX; NUMBERS_ROOM];
+    let mut objects = [u32::MAX; NUMBERS_ROOM];
+    let read = reader::read(
+        r.rows,
+        r.members,
+        r.entries,
+        r.root,
+        r.message,
+        r.handles,
+        &mut values[..values_room],
+        &mut objects[..objects_room],
+    );
+    let counted = match &read {
+        Ok(n) => n.values == lists.values.len() && n.objects == lists.objects.len(),
+        Err(_) => true,
+    };
+    counted
+        && same(lists.answer, &number_and_place(&read))
+        && holds(&values, u64::MAX, lists.values)
+        && holds(&widened(&objects), u64::MAX, lists.objects)
+}
+
+// Each list by itself. A case of 22 does not tell how one list alone would do.
+fn read_each(r: Request<'_>, lists: Lists<'_>) -> bool {
+    if item_at(lists.answer, 0) == 22 {
+        return true;
     }
-    values_are(&wide, given)
+    let values_room = room_of(lists.values_room, NUMBERS_ROOM);
+    let objects_room = room_of(lists.objects_room, NUMBERS_ROOM);
+    let mut values = [u64::MAX; NUMBERS_ROOM];
+    let mut objects = [u32::MAX; NUMBERS_ROOM];
+    let of_values = reader::read_values(
+        r.rows,
+        r.members,
+        r.entries,
+        r.root,
+        r.message,
+        r.handles,
+        &mut values[..values_room],
+    );
+    let of_objects = reader::read_objects(
+        r.rows,
+        r.members,
+        r.entries,
+        r.root,
+        r.message,
+        r.handles,
+        &mut objects[..objects_room],
+    );
+    gives(of_values, lists.answer, lists.values.len())
+        && gives(of_objects, lists.answer, lists.objects.len())
+        && holds(&values, u64::MAX, lists.values)
+        && holds(&widened(&objects), u64::MAX, lists.objects)
+}
+
+// Whether a count, or a refusal, is the answer.
+fn gives(count: Result<usize, Fault>, answer: &[u64], expected: usize) -> bool {
+    same(answer, &number_and_place(&count)) && count.unwrap_or(expected) == expected
 }
 
 // The message; number, place, transaction number, three flags, ordinal, where the body starts and ends, and the status, as a
 // pattern of 32 bits.
 fn header_read(case: &[u64]) -> bool {
-    let numbers = stream::list(case, 0);
-    let mut message = message_room();
-    let count = stream::to_bytes(numbers, &mut message);
-    let answer = stream::rest(case, 1 + numbers.len());
+    let mut message = [0u8; MESSAGE_ROOM];
+    let (numbers, answer) = split_list(case);
+    let count = stream::put_narrow(numbers, &mut message);
     let bytes = &message[..count];
     let length = header::body(bytes).len() as u64;
     match header::read_header(bytes) {
-        header::HeaderAnswer::Accepted { header: h, status } => stream::same(
+        Ok(header::Received { header: h, status }) => same(
             answer,
             &[
                 0,
                 0,
-                h.transaction as u64,
-                h.flag0 as u64,
-                h.flag1 as u64,
-                h.flag2 as u64,
+                u64::from(h.transaction),
+                u64::from(h.flags[0]),
+                u64::from(h.flags[1]),
+                u64::from(h.flags[2]),
                 h.ordinal,
                 16,
                 16 + length,
-                words::pattern32(status) as u64,
+                u64::from(status.cast_unsigned()),
             ],
         ),
-        header::HeaderAnswer::Refused(f) => {
-            stream::same(
-                answer,
-                &[
-                    f.number as u64,
-                    rules::place_number(f),
-                    0,
-                    0,
-                    0,
-                    0,
-                    0,
-                    0,
-                    length,
-                    0,
-                ],
-            )
-        }
+        Err(f) => same(
+            answer,
+            &[
+                u64::from(f.number),
+                rules::place_number(f),
+                0,
+                0,
+                0,
+                0,
+                0,
+                0,
+                length,
+                0,
+            ],
+        ),
     }
 }
 
 // Transaction number, three flags, ordinal and room; number, place, and the bytes that were written. The output is lent
 // full of ones: past what was written, and on a refusal everywhere, they must still be there.
 fn header_write(case: &[u64]) -> bool {
-    let room = words::value_at(case, 5);
-    let mut output = [255u8; OUTPUT_ROOM];
     let h = header::Header {
-        transaction: (words::value_at(case, 0) % 4294967296) as u32,
-        flag0: (words::value_at(case, 1) % 256) as u8,
-        flag1: (words::value_at(case, 2) % 256) as u8,
-        flag2: (words::value_at(case, 3) % 256) as u8,
-        ordinal: words::value_at(case, 4),
+        transaction: u32::narrow(item_at(case, 0)),
+        flags: [
+            u8::narrow(item_at(case, 1)),
+            u8::narrow(item_at(case, 2)),
+            u8::narrow(item_at(case, 3)),
+        ],
+        ordinal: item_at(case, 4),
     };
-    let answer = stream::first(stream::rest(case, 6), 2);
-    let bytes = stream::list(case, 8);
-    match write_within(h, &mut output, room) {
-        header::HeaderWritten::Bytes(count) => stream::same(answer, &[0, 0])
-            & wrote(&output, bytes, count),
-        header::HeaderWritten::Refused(f) => {
-            stream::same(answer, &[f.number as u64, rules::place_number(f)])
-                & wrote(&output, bytes, 0)
-        }
-    }
-}
-
-// Writes a header into the first bytes of an output, so many or all there are.
-fn write_within(h: header::Header, output: &mut [u8], room: u64) -> header::HeaderWritten {
-    if (output.len() as u64) < room {
-        return header::write_header(h, output);
-    }
-    let lent = room as usize;
-    header::write_header(h, &mut output[..lent])
+    let room = room_of(item_at(case, 5), OUTPUT_ROOM);
+    let mut output = [255u8; OUTPUT_ROOM];
+    let written = header::write_header(h, &mut output[..room]);
+    wrote(stream::rest(case, 6), written, &output)
 }
 
 // Three flags, the status and the room; number, place, and the bytes that were written, as for a header.
 fn epitaph_write(case: &[u64]) -> bool {
-    let flag0 = (words::value_at(case, 0) % 256) as u8;
-    let flag1 = (words::value_at(case, 1) % 256) as u8;
-    let flag2 = (words::value_at(case, 2) % 256) as u8;
-    let status = words::signed32((words::value_at(case, 3) % 4294967296) as u32);
-    let room = room_of(words::value_at(case, 4), OUTPUT_ROOM);
-    let answer = stream::first(stream::rest(case, 5), 2);
-    let bytes = stream::list(case, 7);
+    let room = room_of(item_at(case, 4), OUTPUT_ROOM);
     let mut output = [255u8; OUTPUT_ROOM];
-    match header::write_epitaph(flag0, flag1, flag2, status, &mut output[..room]) {
-        header::HeaderWritten::Bytes(count) => stream::same(answer, &[0, 0])
-            & wrote(&output, bytes, count),
-        header::HeaderWritten::Refused(f) => {
-            stream::same(answer, &[f.number as u64, rules::place_number(f)])
-                & wrote(&output, bytes, 0)
-        }
-    }
+    let written = header::write_epitaph(
+        [
+            u8::narrow(item_at(case, 0)),
+            u8::narrow(item_at(case, 1)),
+            u8::narrow(item_at(case, 2)),
+        ],
+        u32::narrow(item_at(case, 3)).cast_signed(),
+        &mut output[..room],
+    );
+    wrote(stream::rest(case, 5), written, &output)
 }
 
-fn wide(byte: u8) -> u64 {
-    byte as u64
-}
-
-// Whether an output that was full of ones holds just these bytes, so many of them, and ones after them.
-fn wrote(output: &[u8; OUTPUT_ROOM], bytes: &[u64], count: usize) -> bool {
-    let mut right = bytes.len() == count;
-    let mut at = 0;
-    while at < OUTPUT_ROOM {
-        let byte = if at < count {
-            words::value_at(bytes, at)
-        } else {
-            255
-        };
-        right = right & (wide(output[at]) == byte);
-        at += 1;
-    }
-    right
+// Number, place and bytes: of a refusal there are none.
+fn wrote(answer: &[u64], written: Result<usize, Fault>, output: &[u8]) -> bool {
+    let (bytes, _) = split_list(stream::rest(answer, 2));
+    same(stream::first(answer, 2), &number_and_place(&written))
+        && bytes.len() == written.unwrap_or(0)
+        && holds(output, u8::MAX, bytes)
 }
 
 // The three lists of a type table, the root, the value list and the room; number, place, byte and handle counts, and the bytes
-// that were written. The output is lent full of ones, as for a header.
+// that were written, as for a header.
 fn write(case: &[u64]) -> bool {
     let mut rows = [0u32; LIST_ROOM];
     let mut members = [0u32; LIST_ROOM];
-    let t = stream::put_table(case, &mut rows, &mut members);
-    let entries = stream::list(case, t.entries);
-    let root = (words::value_at(case, t.next) % 4294967296) as u32;
-    let values = stream::list(case, t.next + 1);
-    let next = t.next + 2 + values.len();
-    let room = room_of(words::value_at(case, next), OUTPUT_ROOM);
-    let answer = stream::first(stream::rest(case, next + 1), 4);
-    let bytes = stream::list(case, next + 5);
+    let table = stream::put_table(case, &mut rows, &mut members);
+    let root = u32::narrow(item_at(table.rest, 0));
+    let (values, rest) = split_list(stream::rest(table.rest, 1));
+    let room = room_of(item_at(rest, 0), OUTPUT_ROOM);
     let mut output = [255u8; OUTPUT_ROOM];
-    match writer::write(
-        &rows[..t.rows],
-        &members[..t.members],
-        entries,
+    let written = writer::write(
+        &rows[..table.rows],
+        &members[..table.members],
+        table.entries,
         root,
         values,
         &mut output[..room],
-    ) {
-        writer::Written::Accepted(n) => {
-            stream::same(answer, &[0, 0, n.bytes as u64, n.handles as u64])
-                & wrote(&output, bytes, n.bytes)
-        }
-        writer::Written::Refused(f) => {
-            stream::same(answer, &[f.number as u64, rules::place_number(f), 0, 0])
-                & wrote(&output, bytes, 0)
-        }
-    }
+    );
+    let [number, place] = number_and_place(&written);
+    let sizes = written.unwrap_or(writer::Sizes {
+        bytes: 0,
+        handles: 0,
+    });
+    let (bytes, _) = split_list(stream::rest(rest, 5));
+    same(
+        stream::first(stream::rest(rest, 1), 4),
+        &[number, place, sizes.bytes as u64, sizes.handles as u64],
+    ) && bytes.len() == sizes.bytes
+        && holds(&output, u8::MAX, bytes)
 }

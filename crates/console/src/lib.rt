@@ -9,7 +9,8 @@ use std::io;
 use std::io::Read;
 
 // Reads until a buffer is full or the input ends, and tells how many bytes it put at the buffer's start. Where the reader's
-// bytes are known, these are the first of them, and fewer than the buffer has room for are all of them.
+// bytes are known, these are the first of them, and fewer than the buffer has room for are all of them. (`read_exact` refuses an
+// input that is short, and `read_to_end` takes memory from the heap.)
 pub fn read_full<R: Read>(reader: &mut R, buffer: &mut [u8]) -> io::Result<usize>
     ensures bound { ReadsAtMost result buffer.new }
     ensures bytes { IfOk result (λ n. Consumes (R.remaining reader.old) (R.remaining reader.new) (take n buffer.new)) }

@@ -1,6 +1,7 @@
 -- Demand 1 of specs/Demand1.antt, proved: an answer is that of the rules with its list counted, so that a refusal is theirs; and what
 -- is lent has the list that the rules give, or is as it was.
 -- Assumes nothing.
+use Rattle.std.specs.Prelude.{Err, Result}
 use mathlib.Core.Path.{◌≡◌, refl, sym, ◌∙◌}
 use mathlib.Core.Logic.{◌↔◌}
 use mathlib.Core.List.{List, [], ◌∷◌, append-nil}
@@ -13,16 +14,15 @@ use Rattle.rules.specs.Refusals.{place_number, Answer, accepted, refused, and_th
 use Rattle.rules.specs.Bytes.{part}
 use Rattle.rules.specs.TypeTable.{type_table}
 use Rattle.rules.specs.Answers as Rules
-use Rattle.rules.specs.Answers.{Lists}
+use Rattle.rules.specs.Answers.{Lists, answer_of}
 use Rattle.rules.specs.Header as HeaderRules
 use Rattle.header.specs.Meaning as Meaning
 use Rattle.text.proofs.Numbers.{text_answer_lem}
 use Rattle.walk_leaves.specs.Doing as Doing
-use Rattle.reader.specs.Answers.{given_of, reading_of, length_of, lengths_of, values_in, objects_in}
-use Rattle.writer.specs.Answers.{written_of, sizes_of}
+use Rattle.reader.specs.Answers.{length_of, lengths_of, values_in, objects_in}
+use Rattle.writer.specs.Answers.{sizes_of}
 use Rattle.listing.specs.Listing.{head, listing_of, listing}
 use Rattle.demands.specs.declared.Trip.{Trip}
-use Rattle.demands.specs.declared.Trip.TheVariants.{Refused}
 use Rattle.demands.specs.Trips.{trip, trip_values, trip_of}
 use Rattle.demands.specs.Demand1.{Refuses, Keeps, Demand1}
 
@@ -39,10 +39,10 @@ refuses_told {B = B} answered ruled tell e f = (λ q. go ruled (sym q ∙ e), λ
     go (accepted b) z = absurd (let y : ◌≡◌ {A = ℕ} 0 1 = cc in omega arith)
     go (refused h) z = let y : f ≡ h = cc in rw y
 
-trip_refused : (r : Trip) (ruled : Answer Rules.Written) → r ≡ trip_of ruled → (f : Fault) → (r ≡ Refused f) ↔ (ruled ≡ refused f)
+trip_refused : (r : Result Trip Fault) (ruled : Answer Rules.Written) → r ≡ trip_of ruled → (f : Fault) → (r ≡ Err f) ↔ (ruled ≡ refused f)
 trip_refused r ruled e f = (λ q. go ruled (sym q ∙ e), λ q. e ∙ rw q)
   where
-    go : (ruled : Answer Rules.Written) → Refused f ≡ trip_of ruled → ruled ≡ refused f
+    go : (ruled : Answer Rules.Written) → Err f ≡ trip_of ruled → ruled ≡ refused f
     go (accepted w) z = absurd (let y : ◌≡◌ {A = ℕ} 0 1 = cc in omega arith)
     go (refused h) z = let y : f ≡ h = cc in rw y
 
@@ -84,20 +84,20 @@ demand1 = record {
   check = λ {rows} {members} {entries} {message} {root} {handles} r p. refuses_same _ _ p.answer;
   read_values = λ {rows} {members} {entries} {message} {values} {values'} {root} {handles} r p.
       let read = Rules.read_values (Doing.message (type_table rows members entries) message handles) root (length values) in
-      (refuses_told (given_of r) read length p.answer, keeps (given_of r) read values values' p.answer p.list);
+      (refuses_told (answer_of r) read length p.answer, keeps (answer_of r) read values values' p.answer p.list);
   read_objects = λ {rows} {members} {entries} {message} {objects} {objects'} {root} {handles} r p.
       let read = Rules.read_objects (Doing.message (type_table rows members entries) message handles) root (length objects) in
-      (refuses_told (given_of r) read length p.answer, keeps (given_of r) read objects objects' p.answer p.list);
+      (refuses_told (answer_of r) read length p.answer, keeps (answer_of r) read objects objects' p.answer p.list);
   read = λ {rows} {members} {entries} {message} {values} {values'} {objects} {objects'} {root} {handles} r p.
       let read = Rules.read (Doing.message (type_table rows members entries) message handles) root (length values) (length objects) in (
-        refuses_told (reading_of r) read (λ lists. record { values = length lists.values; objects = length lists.objects }) p.answer,
-        keeps (and_then (reading_of r) (λ n. accepted n.values)) (values_in read) values values' (rw p.answer (value_count read)) p.values_list,
-        keeps (and_then (reading_of r) (λ n. accepted n.objects)) (objects_in read) objects objects' (rw p.answer (object_count read)) p.objects_list,
+        refuses_told (answer_of r) read (λ lists. record { values = length lists.values; objects = length lists.objects }) p.answer,
+        keeps (and_then (answer_of r) (λ n. accepted n.values)) (values_in read) values values' (rw p.answer (value_count read)) p.values_list,
+        keeps (and_then (answer_of r) (λ n. accepted n.objects)) (objects_in read) objects objects' (rw p.answer (object_count read)) p.objects_list,
       );
   write = λ {rows} {members} {entries} {values} {out} {out'} {root} r p.
       let write = Rules.write (type_table rows members entries) root values (length out) in (
-        refuses_told (written_of r) write (λ w. record { bytes = length w.bytes; handles = w.handles }) p.answer,
-        keeps (and_then (written_of r) (λ n. accepted n.bytes)) (and_then write (λ w. accepted w.bytes)) out out' (rw p.answer (byte_count_lem write)) p.output,
+        refuses_told (answer_of r) write (λ w. record { bytes = length w.bytes; handles = w.handles }) p.answer,
+        keeps (and_then (answer_of r) (λ n. accepted n.bytes)) (and_then write (λ w. accepted w.bytes)) out out' (rw p.answer (byte_count_lem write)) p.output,
       );
   prepare = λ r p. (refuses_same _ _ p.answer, λ f q. let e = sym p.answer ∙ q in (p.sizes_list ∙ rw e, p.alignments_list ∙ rw e));
   layout_of = λ r p. refuses_same _ _ p.answer;
@@ -105,10 +105,10 @@ demand1 = record {
   body = λ p f e. (p.bytes ∙ rw e, p.start ∙ rw e);
   write_header = λ {out} {out'} header r p.
       let write = HeaderRules.write_header (Meaning.header_of header) (length out) in
-      (refuses_told (Meaning.written_of r) write length p.answer, keeps (Meaning.written_of r) write out out' p.answer p.output);
+      (refuses_told (answer_of r) write length p.answer, keeps (answer_of r) write out out' p.answer p.output);
   write_epitaph = λ {out} {out'} flag0 flag1 flag2 status r p.
       let write = HeaderRules.write_epitaph flag0 flag1 flag2 status (length out) in
-      (refuses_told (Meaning.written_of r) write length p.answer, keeps (Meaning.written_of r) write out out' p.answer p.output);
+      (refuses_told (answer_of r) write length p.answer, keeps (answer_of r) write out out' p.answer p.output);
   judge_text = λ {text} r p. refuses_same _ _ (text_answer_lem text r p.answer);
   judge_part = λ {bytes} {at} {count} r p. refuses_same _ _ (text_answer_lem (part bytes at count) r p.answer);
   listed = λ {message} {out} {out'} {count} p.

@@ -1,5 +1,6 @@
 -- Demands 2 and 3 of specs/Demands.antt, proved: from those of the rules, by the promises of the public functions.
 -- Assumes nothing.
+use Rattle.std.specs.Prelude.{Err, Ok, Result}
 use mathlib.Core.Path.{◌≡◌, refl, sym, ap, ◌∙◌}
 use mathlib.Core.List.{List, ◌++◌, append-nil}
 use Prim.Native.Nat.{ℕ}
@@ -10,68 +11,61 @@ use Rattle.rules.specs.Refusals.{Answer, accepted, refused, lent_after}
 use Rattle.rules.specs.Bytes.{Octets}
 use Rattle.rules.specs.TypeTable.{TypeTable, type_table}
 use Rattle.rules.specs.Answers as Rules
-use Rattle.rules.specs.Answers.{Lists, output_after}
+use Rattle.rules.specs.Answers.{Lists, output_after, answer_of}
 use Rattle.rules.specs.Demands as Of
 use Rattle.rules.specs.Demands.{HasValue, HasObjects, HasBoth, IsWrittenTo}
 use Rattle.rules.proofs.Demands as Proved
-use Rattle.reader.specs.declared.Verdict.{Verdict}
-use Rattle.reader.specs.declared.Verdict.TheVariants as Checked
-use Rattle.reader.specs.declared.Given.{Given}
-use Rattle.reader.specs.declared.Given.TheVariants as One
 use Rattle.reader.specs.declared.Lengths.{Lengths}
-use Rattle.reader.specs.declared.Reading.{Reading}
-use Rattle.reader.specs.declared.Reading.TheVariants as Both
 use Rattle.walk_leaves.specs.Doing as Doing
-use Rattle.reader.specs.Answers.{verdict_of, given_of, reading_of, length_of, lengths_of, values_in, objects_in}
-use Rattle.reader.proofs.Numbers.{given_numbers_lem, reading_numbers_lem}
+use Rattle.reader.specs.Answers.{length_of, lengths_of, values_in, objects_in}
+use Rattle.reader.proofs.Numbers.{given_numbers, reading_numbers}
 use Rattle.writer.specs.declared.Sizes.{Sizes}
-use Rattle.writer.specs.declared.Written.{Written}
-use Rattle.writer.specs.declared.Written.TheVariants as Whole
-use Rattle.writer.specs.Answers.{written_of, sizes_of}
-use Rattle.writer.proofs.Numbers.{written_numbers_lem}
+use Rattle.writer.specs.Answers.{sizes_of}
+use Rattle.writer.proofs.Numbers.{written_numbers}
 use Rattle.demands.specs.Demands.{IsReadAs, IsListedAs, IsReadBothAs, IsWrittenAs, Demand2, Canonical, Demand3}
 use Rattle.demands.proofs.More.{values_more, objects_more, write_more, each_of}
+use Rattle.rules.specs.declared.Fault.{Fault}
 
 -- ---- answers
 
-verdict_accepted : (r : Verdict) → verdict_of r ≡ accepted tt → r ≡ Checked.Accepted
-verdict_accepted Checked.Accepted e = refl
-verdict_accepted (Checked.Refused f) e = absurd (let z : ◌≡◌ {A = ℕ} 0 1 = cc in omega arith)
+verdict_accepted : (r : Result (Unit {0}) Fault) → answer_of r ≡ accepted tt → r ≡ (Ok tt)
+verdict_accepted (Ok u) e = refl
+verdict_accepted (Err f) e = absurd (let z : ◌≡◌ {A = ℕ} 0 1 = cc in omega arith)
 
-given_accepted : (r : Given) {count : ℕ} → given_of r ≡ accepted count → r ≡ One.Accepted count
-given_accepted (One.Accepted n) e = cc
-given_accepted (One.Refused f) e = absurd (let z : ◌≡◌ {A = ℕ} 0 1 = cc in omega arith)
+given_accepted : (r : Result ℕ Fault) {count : ℕ} → answer_of r ≡ accepted count → r ≡ Ok count
+given_accepted (Ok n) e = cc
+given_accepted (Err f) e = absurd (let z : ◌≡◌ {A = ℕ} 0 1 = cc in omega arith)
 
-reading_accepted : (r : Reading) {counts : Lengths} → reading_of r ≡ accepted counts → r ≡ Both.Accepted counts
-reading_accepted (Both.Accepted n) e = cc
-reading_accepted (Both.Refused f) e = absurd (let z : ◌≡◌ {A = ℕ} 0 1 = cc in omega arith)
+reading_accepted : (r : Result Lengths Fault) {counts : Lengths} → answer_of r ≡ accepted counts → r ≡ Ok counts
+reading_accepted (Ok n) e = cc
+reading_accepted (Err f) e = absurd (let z : ◌≡◌ {A = ℕ} 0 1 = cc in omega arith)
 
-written_accepted : (r : Written) {sizes : Sizes} → written_of r ≡ accepted sizes → r ≡ Whole.Accepted sizes
-written_accepted (Whole.Accepted n) e = cc
-written_accepted (Whole.Refused f) e = absurd (let z : ◌≡◌ {A = ℕ} 0 1 = cc in omega arith)
+written_accepted : (r : Result Sizes Fault) {sizes : Sizes} → answer_of r ≡ accepted sizes → r ≡ Ok sizes
+written_accepted (Ok n) e = cc
+written_accepted (Err f) e = absurd (let z : ◌≡◌ {A = ℕ} 0 1 = cc in omega arith)
 
 -- Each answer of the rules is one of the code.
-abbrev given_as : Answer ℕ → Given
-given_as (accepted count) = One.Accepted count
-given_as (refused f) = One.Refused f
+abbrev given_as : Answer ℕ → Result ℕ Fault
+given_as (accepted count) = Ok count
+given_as (refused f) = Err f
 
-given_as_lem : (a : Answer ℕ) → given_of (given_as a) ≡ a
+given_as_lem : (a : Answer ℕ) → answer_of (given_as a) ≡ a
 given_as_lem (accepted count) = refl
 given_as_lem (refused f) = refl
 
-abbrev reading_as : Answer Lengths → Reading
-reading_as (accepted counts) = Both.Accepted counts
-reading_as (refused f) = Both.Refused f
+abbrev reading_as : Answer Lengths → Result Lengths Fault
+reading_as (accepted counts) = Ok counts
+reading_as (refused f) = Err f
 
-reading_as_lem : (a : Answer Lengths) → reading_of (reading_as a) ≡ a
+reading_as_lem : (a : Answer Lengths) → answer_of (reading_as a) ≡ a
 reading_as_lem (accepted counts) = refl
 reading_as_lem (refused f) = refl
 
-abbrev written_as : Answer Sizes → Written
-written_as (accepted sizes) = Whole.Accepted sizes
-written_as (refused f) = Whole.Refused f
+abbrev written_as : Answer Sizes → Result Sizes Fault
+written_as (accepted sizes) = Ok sizes
+written_as (refused f) = Err f
 
-written_as_lem : (a : Answer Sizes) → written_of (written_as a) ≡ a
+written_as_lem : (a : Answer Sizes) → answer_of (written_as a) ≡ a
 written_as_lem (accepted sizes) = refl
 written_as_lem (refused f) = refl
 
@@ -81,12 +75,12 @@ written_as_lem (refused f) = refl
 fills : (xs list : List ℕ) → length xs ≡ length list → xs ++ drop (length xs) list ≡ list ++ drop (length list) list → xs ≡ list
 fills xs list n e = simp (n, drop-length, append-nil) at e
 
-just_list : (given : Answer (List ℕ)) (list : List ℕ) → given_as (length_of given) ≡ One.Accepted (length list) → lent_after given list ≡ list ++ drop (length list) list
+just_list : (given : Answer (List ℕ)) (list : List ℕ) → given_as (length_of given) ≡ Ok (length list) → lent_after given list ≡ list ++ drop (length list) list
     → given ≡ accepted list
 just_list (accepted xs) list e l = let n : length xs ≡ length list = cc in ap accepted (fills xs list n l)
 just_list (refused f) list e l = absurd (let z : ◌≡◌ {A = ℕ} 0 1 = cc in omega arith)
 
-just_lists : (given : Answer Lists) (values objects : List ℕ) → reading_as (lengths_of given) ≡ Both.Accepted (record { values = length values; objects = length objects })
+just_lists : (given : Answer Lists) (values objects : List ℕ) → reading_as (lengths_of given) ≡ Ok (record { values = length values; objects = length objects })
     → lent_after (values_in given) values ≡ values ++ drop (length values) values → lent_after (objects_in given) objects ≡ objects ++ drop (length objects) objects
     → given ≡ accepted (record { values = values; objects = objects })
 just_lists (accepted lists) values objects e l k =
@@ -96,7 +90,7 @@ just_lists (accepted lists) values objects e l k =
     rw (← v, ← o)
 just_lists (refused f) values objects e l k = absurd (let z : ◌≡◌ {A = ℕ} 0 1 = cc in omega arith)
 
-just_message : (given : Answer Rules.Written) (message : List ℕ) (handles : ℕ) → written_as (sizes_of given) ≡ Whole.Accepted (record { bytes = length message; handles = handles })
+just_message : (given : Answer Rules.Written) (message : List ℕ) (handles : ℕ) → written_as (sizes_of given) ≡ Ok (record { bytes = length message; handles = handles })
     → output_after given message ≡ message ++ drop (length message) message → given ≡ accepted (record { bytes = message; handles = handles })
 just_message (accepted w) message handles e l =
     let s : ◌≡◌ {A = Sizes} (record { bytes = length w.bytes; handles = w.handles }) (record { bytes = length message; handles = handles }) = cc in
@@ -131,7 +125,7 @@ module _ (rows members entries : List ℕ) (root : ℕ) where
       let m = Doing.message (type_table rows members entries) message handles in
       let given = Rules.read_values m root (length values) in
       let e = given_as_lem (length_of given) in
-      let q = i values (lent_after given values) (given_as (length_of given)) (omega arith) (record { answer = e; list = refl; numbers = given_numbers_lem (given_as (length_of given)) given e }) in
+      let q = i values (lent_after given values) (given_as (length_of given)) (omega arith) (record { answer = e; list = refl; numbers = given_numbers (given_as (length_of given)) given e }) in
       values_more m root (length values) room (just_list given values q.0 q.1) fits
 
   both_given : (message : List ℕ) (handles : ℕ) (values objects : List ℕ) → IsReadBothAs rows members entries root message handles values objects
@@ -141,7 +135,7 @@ module _ (rows members entries : List ℕ) (root : ℕ) where
       let given = Rules.read m root (length values) (length objects) in
       let e = reading_as_lem (lengths_of given) in
       let q = i values (lent_after (values_in given) values) objects (lent_after (objects_in given) objects) (reading_as (lengths_of given)) (omega arith) (omega arith)
-      (record { answer = e; values_list = refl; objects_list = refl; numbers = reading_numbers_lem (reading_as (lengths_of given)) given e }) in
+      (record { answer = e; values_list = refl; objects_list = refl; numbers = reading_numbers (reading_as (lengths_of given)) given e }) in
       let each = each_of m root (length values) (length objects) (just_lists given values objects q.0 q.1 q.2) in
       (λ room fits. values_more m root (length values) room each.values fits, λ room fits. objects_more m root (length objects) room each.objects fits)
 
@@ -149,7 +143,7 @@ module _ (rows members entries : List ℕ) (root : ℕ) where
   is_written_to message handles values i room fits =
       let given = Rules.write table root values (length message) in
       let e = written_as_lem (sizes_of given) in
-      let q = i message (output_after given message) (written_as (sizes_of given)) (omega arith) (record { answer = e; output = refl; numbers = written_numbers_lem (written_as (sizes_of given)) given e }) in
+      let q = i message (output_after given message) (written_as (sizes_of given)) (omega arith) (record { answer = e; output = refl; numbers = written_numbers (written_as (sizes_of given)) given e }) in
       write_more table root values (length message) room (just_message given message handles q.0 q.1) fits
 
   -- ---- demands 2 and 3
@@ -164,7 +158,7 @@ module _ (rows members entries : List ℕ) (root : ℕ) where
   demand2 = record {
     accepted_exactly_when_encoded = λ message handles oct r p.
         let exactly = two.accepted_exactly_when_encoded message handles oct in (
-          λ q. let w = exactly.0 (sym p.answer ∙ ap verdict_of q) in (w.0, is_written_as w.1),
+          λ q. let w = exactly.0 (sym p.answer ∙ ap answer_of q) in (w.0, is_written_as w.1),
           λ w. verdict_accepted r (p.answer ∙ exactly.1 (w.0, is_written_to message handles w.0 w.1)),
         );
     reading_gives_the_value = λ message handles values w.

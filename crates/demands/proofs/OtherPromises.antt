@@ -4,6 +4,7 @@
 use contract.Lifetimes.{Lfts}
 use borrow.Fn.Kinds.{Dens, res_t, ended_of}
 use denote.Triple.Clauses.{AtExit}
+use lib.ListN.{get_or}
 use Rattle.layout.proofs.prepare.Kinds as prepare-kinds
 use Rattle.layout.proofs.prepare.Reads as prepare
 use Rattle.layout.proofs.layout_of.Kinds as layout-kinds
@@ -85,7 +86,7 @@ module _ (κs : Lfts 1) (a : Dens κs epitaph-kinds.ps) where
   write_epitaph_asks_nothing = tt
 
   pub write_epitaph_promises : (r : (res_t epitaph-kinds.r κs).Denot) (s : AtExit (ended_of 1 epitaph-kinds.ps epitaph-kinds.r) κs) → epitaph.Learnt κs a r s
-      → WritesEpitaph a.0 a.1.0 a.1.1.0 a.1.1.1.0 a.1.1.1.1.0.now s.1.1.1.1.0.now r
+      → WritesEpitaph (get_or a.0 0 0) (get_or a.0 1 0) (get_or a.0 2 0) a.1.0 a.1.1.0.now s.1.1.0.now r
   write_epitaph_promises r s l = record { answer = l.0; output = l.1.0; numbers = l.1.1 }
 
 module _ (κs : Lfts 1) (a : Dens κs text-kinds.ps) where

@@ -1,5 +1,6 @@
 -- The round trip: what was read of a message is written to that message; and the first refusal, where there is one.
 -- Assumes nothing.
+use Rattle.std.specs.Prelude.{Err, Ok, Result}
 use mathlib.Core.Path.{◌≡◌, refl, sym, ap, ◌∙◌}
 use mathlib.Core.Bool.{Bool, true, false, ◌&&◌}
 use mathlib.Core.List.{List, [], ◌∷◌, ◌++◌}
@@ -16,22 +17,16 @@ use Rattle.rules.specs.Bytes.{Octets}
 use Rattle.rules.specs.TypeTable.{TypeTable, type_table}
 use Rattle.rules.specs.Decode.{Message}
 use Rattle.rules.specs.Answers as Rules
-use Rattle.rules.specs.Answers.{judged, require_room, output_after}
+use Rattle.rules.specs.Answers.{judged, require_room, output_after, answer_of}
 use Rattle.rules.specs.Demands.{IsWrittenTo}
 use Rattle.rules.proofs.Demands as Proved
 use Rattle.rules.proofs.Rooms.{room_short, room_enough}
-use Rattle.reader.specs.declared.Verdict.{Verdict}
-use Rattle.reader.specs.declared.Verdict.TheVariants as Checked
-use Rattle.reader.specs.declared.Given.{Given}
-use Rattle.reader.specs.declared.Given.TheVariants as One
 use Rattle.walk_leaves.specs.Doing as Doing
-use Rattle.reader.specs.Answers.{verdict_of, given_of, length_of}
+use Rattle.reader.specs.Answers.{length_of}
 use Rattle.writer.specs.declared.Sizes.{Sizes}
-use Rattle.writer.specs.declared.Written.{Written}
-use Rattle.writer.specs.declared.Written.TheVariants as Whole
-use Rattle.writer.specs.Answers.{written_of, sizes_of}
+use Rattle.writer.specs.Answers.{sizes_of}
 use Rattle.demands.specs.declared.Trip.{Trip}
-use Rattle.demands.specs.declared.Trip.TheVariants.{Same, Refused}
+use Rattle.demands.specs.declared.Trip.TheVariants.{Same}
 use Rattle.demands.specs.Trips.{trip, trip_values, output_too_small, trip_of, ComesBack}
 use Rattle.demands.proofs.More.{write_less}
 
@@ -54,24 +49,24 @@ starts list rest {count} {after} n e =
 
 -- ---- what was read, written where there is room
 
-module _ (t : TypeTable) (root : ℕ) (values message : List ℕ) (handles : ℕ) (out out' : List ℕ) (is : IsWrittenTo t root values message handles × (length message ≤ length out)) (a : Written)
-    (answer : written_of a ≡ sizes_of (Rules.write t root values (length out))) (output : out' ≡ output_after (Rules.write t root values (length out)) out) where
+module _ (t : TypeTable) (root : ℕ) (values message : List ℕ) (handles : ℕ) (out out' : List ℕ) (is : IsWrittenTo t root values message handles × (length message ≤ length out)) (a : Result Sizes Fault)
+    (answer : answer_of a ≡ sizes_of (Rules.write t root values (length out))) (output : out' ≡ output_after (Rules.write t root values (length out)) out) where
   written_back : Rules.write t root values (length out) ≡ accepted (record { bytes = message; handles = handles })
   written_back = is.0 (length out) is.1
 
   pub back_output : out' ≡ message ++ drop (length message) out
   back_output = output ∙ rw written_back
 
-  pub back_accepted : {f : Fault} → a ≡ Whole.Refused f → ⊥
+  pub back_accepted : {f : Fault} → a ≡ Err f → ⊥
   back_accepted {f} e =
       let sizes : Sizes = record { bytes = length message; handles = handles } in
-      let z : refused f ≡ accepted sizes = sym (ap written_of e) ∙ answer ∙ rw written_back in
+      let z : refused f ≡ accepted sizes = sym (ap answer_of e) ∙ answer ∙ rw written_back in
       let y : ◌≡◌ {A = ℕ} 0 1 = cc in
       omega arith
 
-  module _ {sizes : Sizes} (e : a ≡ Whole.Accepted sizes) where
+  module _ {sizes : Sizes} (e : a ≡ Ok sizes) where
     sizes_back : sizes ≡ record { bytes = length message; handles = handles }
-    sizes_back = let z : accepted sizes ≡ accepted (record { bytes = length message; handles = handles }) = sym (ap written_of e) ∙ answer ∙ rw written_back in cc
+    sizes_back = let z : accepted sizes ≡ accepted (record { bytes = length message; handles = handles }) = sym (ap answer_of e) ∙ answer ∙ rw written_back in cc
 
     pub back_starts : Starts sizes.bytes message out'
     back_starts = starts message (drop (length message) out) (ap (λ (s : Sizes). s.bytes) sizes_back) back_output
@@ -121,28 +116,28 @@ module _ (m : Message) (root : ℕ) (passed : Rules.check m root ≡ accepted tt
       rw e
 
   -- A reader that is lent no room tells how many numbers there are.
-  module _ (g : Given) (answer : given_of g ≡ length_of (Rules.read_values m root 0)) where
-    told : given_of g ≡ length_of (require_room (length all) 0 (accepted all))
+  module _ (g : Result ℕ Fault) (answer : answer_of g ≡ length_of (Rules.read_values m root 0)) where
+    told : answer_of g ≡ length_of (require_room (length all) 0 (accepted all))
     told = answer ∙ ap length_of ((held_of m root passed).reads 0)
 
-    counted : {f : Fault} → g ≡ One.Refused f → length all ≡ place_number f.place
-    counted {f} e = go (leb (length all) 0) (sym (ap given_of e) ∙ told)
+    counted : {f : Fault} → g ≡ Err f → length all ≡ place_number f.place
+    counted {f} e = go (leb (length all) 0) (sym (ap answer_of e) ∙ told)
       where
         go : (b : Bool) → refused f ≡ length_of (require b (fault room_too_small (Amount (length all))) (accepted all)) → length all ≡ place_number f.place
         go true z = absurd (let y : ◌≡◌ {A = ℕ} 0 1 = cc in omega arith)
         go false z = let y : f ≡ fault room_too_small (Amount (length all)) = cc in rw y
 
-    pub needs_values : {f : Fault} (room : ℕ) {count : ℕ} → g ≡ One.Refused f → count ≡ place_number f.place → room < count → refused (fault 22 (Amount count)) ≡ output_too_small m root room
+    pub needs_values : {f : Fault} (room : ℕ) {count : ℕ} → g ≡ Err f → count ≡ place_number f.place → room < count → refused (fault 22 (Amount count)) ≡ output_too_small m root room
     needs_values room {count} e is short =
         let n : count ≡ length all = is ∙ sym (counted e) in
         rw n (values_short room (rw n at short))
 
-    pub needs_bytes : {f : Fault} (room : ℕ) {count : ℕ} → g ≡ One.Refused f → count ≡ place_number f.place → count ≤ room
+    pub needs_bytes : {f : Fault} (room : ℕ) {count : ℕ} → g ≡ Err f → count ≡ place_number f.place → count ≤ room
         → refused (fault 22 (Amount (length m.bytes))) ≡ output_too_small m root room
     needs_bytes room {count} e is fits = values_fit room (omega (arith, is, counted e))
 
-    pub no_values : {count : ℕ} (room : ℕ) → g ≡ One.Accepted count → refused (fault 22 (Amount (length m.bytes))) ≡ output_too_small m root room
-    no_values {count} room e = go (leb (length all) 0) refl (sym (ap given_of e) ∙ told)
+    pub no_values : {count : ℕ} (room : ℕ) → g ≡ Ok count → refused (fault 22 (Amount (length m.bytes))) ≡ output_too_small m root room
+    no_values {count} room e = go (leb (length all) 0) refl (sym (ap answer_of e) ∙ told)
       where
         go : (b : Bool) → leb (length all) 0 ≡ b → accepted count ≡ length_of (require b (fault room_too_small (Amount (length all))) (accepted all))
             → refused (fault 22 (Amount (length m.bytes))) ≡ output_too_small m root room
@@ -165,9 +160,9 @@ trip_too_small m root values_room out-room oct passed short =
 
 -- ---- there and back again
 
-module _ (rows members entries message : List ℕ) (root handles : ℕ) (verdict : Verdict) (checked : verdict_of verdict ≡ Rules.check (Doing.message (type_table rows members entries) message handles) root) where
+module _ (rows members entries message : List ℕ) (root handles : ℕ) (verdict : Result (Unit {0}) Fault) (checked : answer_of verdict ≡ Rules.check (Doing.message (type_table rows members entries) message handles) root) where
   -- What the round trip promises: its answer, and both lists after it.
-  abbrev Trips : (lent values' out out' : List ℕ) → Trip → Type 0
+  abbrev Trips : (lent values' out out' : List ℕ) → Result Trip Fault → Type 0
   Trips lent values' out out' r =
       record {
         answer : r ≡ trip_of (trip (Doing.message (type_table rows members entries) message handles) root (length lent) (length out));
@@ -176,33 +171,33 @@ module _ (rows members entries message : List ℕ) (root handles : ℕ) (verdict
       }
 
   refused_trip : {values out : List ℕ} {f : Fault} → trip (Doing.message (type_table rows members entries) message handles) root (length values) (length out) ≡ refused f
-      → Trips values values out out (Refused f)
+      → Trips values values out out (Err f)
   refused_trip e = record { answer = rw e; values = rw e; output = rw e }
 
-  pub trip_unchecked : {values out : List ℕ} {f : Fault} → verdict ≡ Checked.Refused f → Trips values values out out (Refused f)
+  pub trip_unchecked : {values out : List ℕ} {f : Fault} → verdict ≡ Err f → Trips values values out out (Err f)
   trip_unchecked {f = f} e =
-      let c : refused f ≡ Rules.check (Doing.message (type_table rows members entries) message handles) root = sym (ap verdict_of e) ∙ checked in
+      let c : refused f ≡ Rules.check (Doing.message (type_table rows members entries) message handles) root = sym (ap answer_of e) ∙ checked in
       refused_trip (rw (← c))
 
-  module _ (e : verdict ≡ Checked.Accepted) where
+  module _ (e : verdict ≡ (Ok tt)) where
     pub passed : Rules.check (Doing.message (type_table rows members entries) message handles) root ≡ accepted tt
-    passed = sym checked ∙ ap verdict_of e
+    passed = sym checked ∙ ap answer_of e
 
     abbrev pub held : Held (Doing.message (type_table rows members entries) message handles) root
     held = held_of (Doing.message (type_table rows members entries) message handles) root passed
 
     pub trip_short : {values out : List ℕ} {count : ℕ} → Octets message → length out < length message
         → refused (fault 22 (Amount count)) ≡ output_too_small (Doing.message (type_table rows members entries) message handles) root (length values)
-        → Trips values values out out (Refused (fault 22 (Amount count)))
+        → Trips values values out out (Err (fault 22 (Amount count)))
     trip_short {values} {out} oct short e =
         refused_trip (trip_too_small (Doing.message (type_table rows members entries) message handles) root (length values) (length out) oct passed short ∙ sym e)
 
-    module _ (values values' : List ℕ) (g : Given) (answer : given_of g ≡ length_of (Rules.read_values (Doing.message (type_table rows members entries) message handles) root (length values)))
+    module _ (values values' : List ℕ) (g : Result ℕ Fault) (answer : answer_of g ≡ length_of (Rules.read_values (Doing.message (type_table rows members entries) message handles) root (length values)))
         (list : values' ≡ lent_after (Rules.read_values (Doing.message (type_table rows members entries) message handles) root (length values)) values) where
-      pub trip_unread : {out : List ℕ} {f : Fault} → g ≡ One.Refused f → Trips values values' out out (Refused f)
+      pub trip_unread : {out : List ℕ} {f : Fault} → g ≡ Err f → Trips values values' out out (Err f)
       trip_unread {out} {f} q =
           let r : Rules.read_values (Doing.message (type_table rows members entries) message handles) root (length values) ≡ refused f =
-          go (Rules.read_values (Doing.message (type_table rows members entries) message handles) root (length values)) (sym (ap given_of q) ∙ answer) in
+          go (Rules.read_values (Doing.message (type_table rows members entries) message handles) root (length values)) (sym (ap answer_of q) ∙ answer) in
           let kept : values' ≡ values = list ∙ rw r in
           rw kept (refused_trip (rw (passed, r)))
         where
@@ -211,10 +206,10 @@ module _ (rows members entries message : List ℕ) (root handles : ℕ) (verdict
           go (refused h) z = let y : f ≡ h = cc in rw y
 
       -- What the message holds was read, all of it.
-      read_all : {count : ℕ} → g ≡ One.Accepted count
+      read_all : {count : ℕ} → g ≡ Ok count
           → (Rules.read_values (Doing.message (type_table rows members entries) message handles) root (length values) ≡ accepted held.list) × (count ≡ length held.list)
       read_all {count} q =
-          let x = go (leb (length held.list) (length values)) (sym (ap given_of q) ∙ answer ∙ ap length_of (held.reads (length values))) in
+          let x = go (leb (length held.list) (length values)) (sym (ap answer_of q) ∙ answer ∙ ap length_of (held.reads (length values))) in
           (held.reads (length values) ∙ x.0, x.1)
         where
           go : (b : Bool) → accepted count ≡ length_of (require b (fault room_too_small (Amount (length held.list))) (accepted held.list))
@@ -222,14 +217,14 @@ module _ (rows members entries message : List ℕ) (root handles : ℕ) (verdict
           go true z = (refl, cc)
           go false z = absurd (let y : ◌≡◌ {A = ℕ} 0 1 = cc in omega arith)
 
-      pub read_starts : {count : ℕ} → g ≡ One.Accepted count → Starts count held.list values'
+      pub read_starts : {count : ℕ} → g ≡ Ok count → Starts count held.list values'
       read_starts q = let x = read_all q in starts held.list (drop (length held.list) values) x.1 (list ∙ rw x.0)
 
-      pub read_written : {count : ℕ} → Octets message → g ≡ One.Accepted count → IsWrittenTo (type_table rows members entries) root (take count values') message handles
+      pub read_written : {count : ℕ} → Octets message → g ≡ Ok count → IsWrittenTo (type_table rows members entries) root (take count values') message handles
       read_written oct q = rw (read_starts q).same (held_written (Doing.message (type_table rows members entries) message handles) root held oct)
 
-      pub trip_back : {count : ℕ} (out out' : List ℕ) {r : Trip} → Octets message → length message ≤ length out → g ≡ One.Accepted count
-          → record { answer : r ≡ Same; output : out' ≡ message ++ drop (length message) out } → Trips values values' out out' r
+      pub trip_back : {count : ℕ} (out out' : List ℕ) {r : Result Trip Fault} → Octets message → length message ≤ length out → g ≡ Ok count
+          → record { answer : r ≡ Ok Same; output : out' ≡ message ++ drop (length message) out } → Trips values values' out out' r
       trip_back out out' oct fits q back =
           let x = read_all q in
           let w = held_written (Doing.message (type_table rows members entries) message handles) root held oct (length out) fits in

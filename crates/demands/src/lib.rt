@@ -3,7 +3,7 @@
 // specs/Demands.antt.
 #![tactic(auto)]
 
-ghost use Rattle.std.specs.Prelude.{◌≡◌, ◌++◌, ◌≤◌, length, drop};
+ghost use Rattle.std.specs.Prelude.{◌≡◌, ◌++◌, ◌≤◌, length, drop, Ok};
 ghost use Rattle.rules.specs.declared.Place.TheVariants.{Amount};
 ghost use Rattle.rules.specs.Refusals.{fault, accepted, refused, lent_after};
 ghost use Rattle.rules.specs.TypeTable.{type_table};
@@ -14,16 +14,13 @@ ghost use Rattle.walk_leaves.specs.Doing as Doing;
 ghost use Rattle.demands.specs.declared.Trip.TheVariants.{Same};
 ghost use Rattle.demands.specs.Trips.{trip_of, trip, trip_values, output_too_small};
 
-use reader::{Given, Verdict};
-use rules::{Fault, Place};
-use writer::Written;
+use rules::{Fault, Place, Refusal};
 
-// What came back: the same bytes and handle count, or others; or one of the three operations refused.
+// What came back: the same bytes and handle count, or others.
 #[derive(Clone, Copy)]
 pub enum Trip {
     Same,
     Different,
-    Refused(Fault),
 }
 
 // The room that is missing where the output is too small: for the values, if that is too small as well. A reader that is lent
@@ -41,7 +38,7 @@ fn needed(
     ensures { refused (fault 22 (Amount result)) ≡ output_too_small (Doing.message (type_table rows.now members.now entries.now) message.now handles) root room }
 {
     let mut no_values = [0u64; 0];
-    if let Given::Refused(f) = reader::read_values(
+    if let Err(f) = reader::read_values(
         rows,
         members,
         entries,
@@ -68,22 +65,17 @@ fn back(
     handles: u64,
     values: &[u64],
     out: &mut [u8],
-) -> Trip
+) -> Result<Trip, Fault>
     requires { IsWrittenTo (type_table rows.now members.now entries.now) root values.now message.now handles × (length message.now ≤ length out.old) }
-    ensures answer { result ≡ Same }
+    ensures answer { result ≡ Ok Same }
     ensures output { out.new ≡ message.now ++ drop (length message.now) out.old }
 {
-    match writer::write(rows, members, entries, root, values, out) {
-        Written::Refused(f) => Trip::Refused(f),
-        Written::Accepted(sizes) => {
-            let count = sizes.bytes;
-            let same = check::same(&out[..count], message);
-            if same & (sizes.handles as u64 == handles) {
-                Trip::Same
-            } else {
-                Trip::Different
-            }
-        }
+    let sizes = writer::write(rows, members, entries, root, values, out)?;
+    let same = &out[..sizes.bytes] == message;
+    if same & (sizes.handles as u64 == handles) {
+        Ok(Trip::Same)
+    } else {
+        Ok(Trip::Different)
     }
 }
 
@@ -98,32 +90,25 @@ pub fn round_trip(
     handles: u64,
     values: &mut [u64],
     out: &mut [u8],
-) -> Trip
+) -> Result<Trip, Fault>
     ensures answer { result ≡ trip_of (trip (Doing.message (type_table rows.now members.now entries.now) message.now handles) root (length values.old) (length out.old)) }
     ensures values { values.new ≡ lent_after (trip_values (Doing.message (type_table rows.now members.now entries.now) message.now handles) root (length values.old) (length out.old)) values.old }
     ensures output { out.new ≡ output_after (trip (Doing.message (type_table rows.now members.now entries.now) message.now handles) root (length values.old) (length out.old)) out.old }
 {
-    if let Verdict::Refused(f) = reader::check(rows, members, entries, root, message, handles) {
-        return Trip::Refused(f);
-    }
+    reader::check(rows, members, entries, root, message, handles)?;
     if out.len() < message.len() {
         let count = needed(rows, members, entries, root, message, handles, values.len());
-        return Trip::Refused(Fault {
-            number: 22,
-            place: Place::Amount(count),
-        });
+        return Err(Refusal::RoomTooSmall.at(Place::Amount(count)));
     }
-    match reader::read_values(rows, members, entries, root, message, handles, values) {
-        Given::Refused(f) => Trip::Refused(f),
-        Given::Accepted(count) => back(
-            rows,
-            members,
-            entries,
-            root,
-            message,
-            handles,
-            &values[..count],
-            out,
-        ),
-    }
+    let count = reader::read_values(rows, members, entries, root, message, handles, values)?;
+    back(
+        rows,
+        members,
+        entries,
+        root,
+        message,
+        handles,
+        &values[..count],
+        out,
+    )
 }

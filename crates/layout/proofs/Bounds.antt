@@ -3,12 +3,15 @@
 use mathlib.Core.Bool.{Bool, true, false, ◌&&◌, ◌||◌}
 use mathlib.Core.List.{List, [], ◌∷◌}
 use mathlib.Core.Path.{◌≡◌, refl, sym, subst}
-use Prim.Native.Nat.{ℕ, zero, suc, ◌≤◌, ◌<◌, max}
+use Prim.Native.Nat.{ℕ, zero, suc, ◌+◌, ◌-◌, ◌≤◌, ◌<◌, max}
 use native.Mathlib.Nat.{max-eq_left, max-eq_right, mul-le-mul, le_of_lt}
 use native.Mathlib.Omega.{arith}
+use lib.Bits.{bit_and}
 use lib.Dec.{eqb, leb, ltb}
 use borrow.Author.Count.{below_none, below_more}
 use borrow.Author.Tests.{eqb-true, leb-true, leb-false, ltb-true, ltb-false}
+use Rattle.std.proofs.lemmas.Nat.Bits.{and_high_mask}
+use Rattle.rules.specs.Bytes.{round_up}
 use Rattle.rules.specs.declared.Layout.{Layout}
 use Rattle.rules.specs.TypeTable.{TypeTable, b_at, c_at, row_of, FidlType, bool, number, handle, array, vector, string, struct, box, table, union, strict_enum, strict_bits, none, type_of, member_rows}
 use Rattle.rules.specs.Sizes.{largest_alignment, fields_from, fields_of, fields_size, struct_size, layout_as, layout_below, layout_of}
@@ -26,12 +29,13 @@ alignment_bounds two = omega arith
 alignment_bounds four = omega arith
 alignment_bounds eight = omega arith
 
--- The one that is left.
-pub eight_left : {a : ℕ} → Alignment a → (a ≡ 1 → ⊥) → (a ≡ 2 → ⊥) → (a ≡ 4 → ⊥) → a ≡ 8
-eight_left one not-one not-two not-four = absurd (not-one refl)
-eight_left two not-one not-two not-four = absurd (not-two refl)
-eight_left four not-one not-two not-four = absurd (not-four refl)
-eight_left eight not-one not-two not-four = refl
+-- A mask clears what a division by such an alignment would leave.
+pub masked : {a : ℕ} → Alignment a → (n : ℕ) → n ≤ 4294967296 → bit_and (n + (a - 1)) (18446744073709551615 - (a - 1)) ≡ round_up n a
+unfolding round_up
+masked one n h = and_high_mask 64 0 (omega arith) (n + 0) (omega arith)
+masked two n h = and_high_mask 64 1 (omega arith) (n + 1) (omega arith)
+masked four n h = and_high_mask 64 2 (omega arith) (n + 3) (omega arith)
+masked eight n h = and_high_mask 64 3 (omega arith) (n + 7) (omega arith)
 
 width_cases : (w : ℕ) (w1 w2 w4 w8 : Bool) → eqb w 1 ≡ w1 → eqb w 2 ≡ w2 → eqb w 4 ≡ w4 → eqb w 8 ≡ w8
     → (w1 || w2 || w4 || w8) ≡ true → Alignment w
@@ -41,7 +45,7 @@ width_cases w false false true w8 e1 e2 e4 e8 e = subst Alignment (sym (eqb-true
 width_cases w false false false true e1 e2 e4 e8 e = subst Alignment (sym (eqb-true w 8 e8)) eight
 width_cases w false false false false e1 e2 e4 e8 e = let z : ◌≡◌ {A = ℕ} 0 1 = cc in absurd (omega arith)
 
-width_alignment : (w : ℕ) → width_allowed w ≡ true → Alignment w
+pub width_alignment : (w : ℕ) → width_allowed w ≡ true → Alignment w
 width_alignment w e = width_cases w (eqb w 1) (eqb w 2) (eqb w 4) (eqb w 8) refl refl refl refl e
 
 larger_case : (a b : ℕ) (le : Bool) → leb a b ≡ le → Alignment a → Alignment b → Alignment (max a b)

@@ -1,5 +1,6 @@
 -- Going up the rows of a type table, judging each and keeping its layout: what holds before each row, and at the top.
 -- Assumes nothing.
+use Rattle.std.specs.Prelude.{Result, Ok, Err, is_ok}
 use mathlib.Core.Bool.{true, false}
 use mathlib.Core.List.{List}
 use mathlib.Core.Path.{◌≡◌, refl, ap, sym, ◌∙◌}
@@ -7,8 +8,8 @@ use Prim.Native.Nat.{ℕ, zero, suc, ◌+◌, ◌-◌, ◌≤◌, ◌<◌}
 use native.Mathlib.Nat.{not-suc-le-zero, add-zero}
 use native.Mathlib.Numerals.{add-one, sub-one}
 use native.Mathlib.Omega.{arith}
-use lib.ListN.{length, get_or, set}
-use borrow.Author.Count.{below_none, below_more}
+use lib.ListN.{get_or}
+use borrow.Author.Count.{below_none}
 use Rattle.rules.specs.declared.Fault.{Fault}
 use Rattle.rules.specs.declared.Place.TheVariants.{Row}
 use Rattle.rules.specs.declared.Layout.{Layout}
@@ -16,15 +17,11 @@ use Rattle.rules.specs.Refusals.{table_not_sound, fault, accepted, refused, requ
 use Rattle.rules.specs.TypeTable.{TypeTable, row_count}
 use Rattle.rules.specs.Sizes.{layout_of}
 use Rattle.rules.specs.Sound.{lists_whole, row_sound, rows_sound, soundness}
-use Rattle.layout.specs.declared.Soundness.{Soundness}
-use Rattle.layout.specs.declared.Soundness.TheVariants.{Sound}
-use Rattle.layout.specs.declared.climb.Judged.{Judged}
-use Rattle.layout.specs.declared.climb.Judged.TheVariants.{Laid, Bad}
-use Rattle.layout.specs.Answers.{verdict_of, kept_sizes, kept_alignments, given_if_sound}
+use Rattle.layout.specs.Answers.{kept_sizes, kept_alignments, given_if_sound}
 use Rattle.layout.specs.Kept.{SoundBelow, Zeroed, KeptBelow, Climbing, SameFrom, Climbed, judged}
 use Rattle.layout.proofs.Rows.{lists_whole_lem}
 use Rattle.layout.proofs.Bounds.{Bounded, alignment_bounds, row_bounded, bounded}
-use Rattle.layout.proofs.Keeping.{ZerosFrom, part_next, part_all, zeros_first, same_next, zeros_same, judged_laid, judged_bad}
+use Rattle.layout.proofs.Keeping.{ZerosFrom, part_all, zeros_first, zeros_same, judged_laid, judged_bad}
 
 -- On the way: the rows below `row` are sound and kept, and the arrays are as they were from there on.
 pub record Going (t : TypeTable) (row : ℕ) (sizes-before alignments-before sizes alignments : List ℕ) : Type 0 where
@@ -88,17 +85,6 @@ climbing_first t {sizes} {alignments} no-sizes no-alignments =
       alignments_whole = (zeros_first no-alignments).whole;
     }
 
-pub going_first : {t : TypeTable} {row : ℕ} {sizes alignments : List ℕ} → lists_whole t ≡ true → Climbing t row sizes alignments
-    → Going t row sizes alignments sizes alignments
-going_first e c =
-    record {
-      lists = e;
-      within = c.within;
-      kept = c.kept;
-      size_rest = record { whole = c.sizes_whole; same = λ r l. refl };
-      alignment_rest = record { whole = c.alignments_whole; same = λ r l. refl };
-    }
-
 module _
     {t : TypeTable}
     {row : ℕ}
@@ -108,9 +94,6 @@ module _
     pub few_rows : row ≤ 256
     few_rows = omega (arith, g.within, (lists_whole_lem t g.lists).rows)
 
-    pub few_members : length t.members ≤ 2048
-    few_members = (lists_whole_lem t g.lists).members
-
     verdict : soundness t ≡ rows_sound t row (row_count t - row)
     verdict = rest_verdict t row g.lists g.within g.kept.sound
 
@@ -118,37 +101,22 @@ module _
       pub row_kept : row < 256
       row_kept = omega (arith, (lists_whole_lem t g.lists).rows)
 
-      module _ (r : Judged) (e : r ≡ judged t row) where
-        pub row_refused : r ≡ Bad → soundness t ≡ refused (fault table_not_sound (Row row))
-        row_refused bad = verdict ∙ rows_step t row (row_count t - row) (omega arith) ∙ rw (judged_bad t row r e bad)
+      module _ (r : Result Layout Fault) (e : r ≡ judged t row) where
+        pub row_refused : (f : Fault) → r ≡ Err f → soundness t ≡ refused f
+        row_refused f bad =
+            let b = judged_bad t row r f e bad in
+            verdict ∙ rows_step t row (row_count t - row) (omega arith) ∙ rw (b.0, b.1)
 
-        module _ (l : Layout) (laid : r ≡ Laid l) where
-          -- The row's layout fits the lists,
+        module _ (l : Layout) (laid : r ≡ Ok l) where
+          -- The row's layout fits the lists.
           pub row_fits_lists : (l.size ≤ 65528) × (l.alignment ≤ 8)
           row_fits_lists =
               let sound = judged_laid t row r l e laid in
               let b : Bounded l = rw sound.1 (row_bounded t row sound.0 (bounded t row g.kept.sound)) in
               (b.most, (alignment_bounds b.alignment).1)
 
-          -- and is kept there.
-          pub going_next : Going t (row + 1) sizes-before alignments-before (set sizes row l.size) (set alignments row l.alignment)
-          going_next =
-              let sound = judged_laid t row r l e laid in
-              let kept = g.kept in
-              record {
-                lists = g.lists;
-                within = omega arith;
-                kept = record {
-                  sound = below_more (λ x. row_sound t x ≡ true) row kept.sound sound.0;
-                  size = part_next (λ x. x.size) t row sizes l.size kept.size g.size_rest.whole row_kept (ap (λ x. x.size) sound.1);
-                  alignment = part_next (λ x. x.alignment) t row alignments l.alignment kept.alignment g.alignment_rest.whole row_kept (ap (λ x. x.alignment) sound.1);
-                };
-                size_rest = same_next row sizes-before sizes l.size g.size_rest;
-                alignment_rest = same_next row alignments-before alignments l.alignment g.alignment_rest;
-              }
-
     -- At the top.
-    pub climbed_sound : row_count t ≤ row → Climbed t Sound sizes-before alignments-before sizes alignments
+    pub climbed_sound : row_count t ≤ row → Climbed t (Ok tt) sizes-before alignments-before sizes alignments
     climbed_sound h =
         let top : row ≡ row_count t = omega (arith, g.within) in
         let last : Going t (row_count t) sizes-before alignments-before sizes alignments = rw top at g in
@@ -163,13 +131,13 @@ module _
 never_sound : {A : Type 0} (t : TypeTable) (f : Fault) → soundness t ≡ refused f → soundness t ≡ accepted tt → A
 never_sound t f bad sound = absurd (let z : ◌≡◌ {A = ℕ} 0 1 = cc in omega arith)
 
-pub climbed_refused : (t : TypeTable) (r : Soundness) (f : Fault) {sizes-before alignments-before sizes alignments : List ℕ}
-    → verdict_of r ≡ refused f → soundness t ≡ refused f → Climbed t r sizes-before alignments-before sizes alignments
-climbed_refused t r f e bad =
-    record { verdict = e ∙ sym bad; kept = never_sound t f bad; size_rest = never_sound t f bad; alignment_rest = never_sound t f bad }
+pub climbed_refused : (t : TypeTable) (f : Fault) {sizes-before alignments-before sizes alignments : List ℕ}
+    → soundness t ≡ refused f → Climbed t (Err f) sizes-before alignments-before sizes alignments
+climbed_refused t f bad =
+    record { verdict = sym bad; kept = never_sound t f bad; size_rest = never_sound t f bad; alignment_rest = never_sound t f bad }
 
 -- Where there were zeros past the rows, the arrays are what is kept of a sound table.
-pub climbed_kept : {t : TypeTable} {r : Soundness} {sizes-before alignments-before sizes alignments : List ℕ}
+pub climbed_kept : {t : TypeTable} {r : Result (Unit {0}) Fault} {sizes-before alignments-before sizes alignments : List ℕ}
     → Climbed t r sizes-before alignments-before sizes alignments → soundness t ≡ accepted tt
     → (first : ℕ) → first ≤ row_count t → ZerosFrom first sizes-before → ZerosFrom first alignments-before
     → (sizes ≡ kept_sizes t) × (alignments ≡ kept_alignments t)
@@ -179,18 +147,11 @@ climbed_kept {t} {r} {sizes-before} {alignments-before} {sizes} {alignments} c s
   part_all (λ l. l.alignment) t alignments (c.kept sound).alignment (zeros_same first (row_count t) alignments-before alignments h w (c.alignment_rest sound)),
 )
 
--- ---- what is promised of the answer and of the arrays lent
-
-abbrev pub Promised : TypeTable → Soundness → (sizes alignments sizes-before alignments-before : List ℕ) → Type 0
-Promised t r sizes alignments sizes-before alignments-before =
-    (verdict_of r ≡ soundness t)
-    × ((sizes ≡ given_if_sound t (kept_sizes t) sizes-before) × (alignments ≡ given_if_sound t (kept_alignments t) alignments-before))
-
-pub refused_promised : (t : TypeTable) (r : Soundness) (f : Fault) {sizes alignments sizes-before alignments-before : List ℕ}
-    → verdict_of r ≡ refused f → soundness t ≡ refused f → sizes ≡ sizes-before → alignments ≡ alignments-before
-    → Promised t r sizes alignments sizes-before alignments-before
-refused_promised t r f e bad same same' = rw bad (e, (same, same'))
-
-pub sound_promised : (t : TypeTable) {sizes alignments : List ℕ} (sizes-before alignments-before : List ℕ) → soundness t ≡ accepted tt
-    → (sizes ≡ kept_sizes t) × (alignments ≡ kept_alignments t) → Promised t Sound sizes alignments sizes-before alignments-before
-sound_promised t sizes-before alignments-before sound kept = rw sound (refl, kept)
+-- What is given of a sound table, where nothing was kept before.
+pub given_kept : {t : TypeTable} {r : Result (Unit {0}) Fault} {sizes-before alignments-before sizes alignments : List ℕ}
+    → Climbed t r sizes-before alignments-before sizes alignments → is_ok r ≡ true → Zeroed sizes-before → Zeroed alignments-before
+    → (sizes ≡ given_if_sound t (kept_sizes t) sizes-before) × (alignments ≡ given_if_sound t (kept_alignments t) alignments-before)
+given_kept {t} {r = Ok u} c ok no-sizes no-alignments =
+    let sound : soundness t ≡ accepted tt = sym c.verdict in
+    rw sound (climbed_kept c sound 0 (omega arith) (zeros_first no-sizes) (zeros_first no-alignments))
+given_kept {t} {r = Err f} c ok no-sizes no-alignments = (cc, cc)

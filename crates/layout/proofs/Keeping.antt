@@ -1,29 +1,24 @@
--- The numbers that are kept of a type table: how they grow row by row, and what a reader of them learns.
+-- The numbers that are kept of a type table: which they are at the top, and what a reader of them learns.
 -- Assumes nothing.
-use Rattle.std.specs.Prelude.{if◌then◌else◌}
+use Rattle.std.specs.Prelude.{if◌then◌else◌, Result, Ok, Err}
 use mathlib.Core.Bool.{Bool, true, false}
 use mathlib.Core.List.{List}
 use mathlib.Core.Path.{◌≡◌, refl, ap, sym, ◌∙◌}
 use Prim.Native.Nat.{ℕ, zero, suc, ◌+◌, ◌≤◌, ◌<◌}
 use native.Mathlib.Nat.{not-suc-le-zero, add-zero, zero-add}
 use native.Mathlib.Omega.{arith}
-use lib.Dec.{leb, ltb}
-use lib.ListN.{get_or, length, replicate, set, length-set, length-replicate, get_or-eq_default}
-use lib.Seq.{ext_get_or, get_or-set_same, get_or-set_other}
-use borrow.Author.Count.{below_more}
+use lib.Dec.{ltb}
+use lib.ListN.{get_or, length, replicate, length-replicate, get_or-eq_default}
+use lib.Seq.{ext_get_or}
 use borrow.Author.Tests.{lt-ltb, le-ltb, ltb-true, ltb-false}
 use Rattle.rules.specs.declared.Fault.{Fault}
 use Rattle.rules.specs.declared.Layout.{Layout}
-use Rattle.rules.specs.Refusals.{accepted, refused}
+use Rattle.rules.specs.Refusals.{accepted}
 use Rattle.rules.specs.TypeTable.{TypeTable, row_count}
 use Rattle.rules.specs.Sizes.{layout, layout_of, size_of}
 use Rattle.rules.specs.Sound.{row_sound, soundness}
-use Rattle.layout.specs.declared.Soundness.{Soundness}
-use Rattle.layout.specs.declared.Soundness.TheVariants.{Sound, Refused}
-use Rattle.layout.specs.declared.climb.Judged.{Judged}
-use Rattle.layout.specs.declared.climb.Judged.TheVariants.{Laid, Bad}
-use Rattle.layout.specs.Answers.{verdict_of, kept_from, kept_sizes, kept_alignments, given_if_sound}
-use Rattle.layout.specs.Kept.{Fits, PartBelow, Zeroed, KeptBelow, Layable, SameFrom, judged_if, judged}
+use Rattle.layout.specs.Answers.{kept_from, kept_sizes, kept_alignments, given_if_sound}
+use Rattle.layout.specs.Kept.{PartBelow, Zeroed, Layable, SameFrom, refused_at, judged_if, judged}
 use Rattle.layout.proofs.Rows.{lists_whole_lem, sound_lists, sound_rows, sound_fits}
 use Rattle.layout.proofs.Bounds.{Bounded, bounded}
 
@@ -57,15 +52,7 @@ module _ (part : Layout → ℕ) (t : TypeTable) where
   part_case list p z row true e = p row (ltb-true row (row_count t) e) ∙ rw e
   part_case list p z row false e = z.zero row (ltb-false row (row_count t) e) ∙ rw e
 
-  -- One row after the other is kept,
-  pub part_next : (row : ℕ) (list : List ℕ) (value : ℕ) → PartBelow part t row list → length list ≡ 256 → row < 256 → value ≡ part (layout_of t row)
-      → PartBelow part t (row + 1) (set list row value)
-  part_next row list value p whole h e =
-      below_more (λ r. get_or (set list row value) r 0 ≡ part (layout_of t r)) row
-      (λ r l. get_or-set_other list row r value 0 (λ q. omega arith) ∙ p r l)
-      (get_or-set_same list row value 0 (omega arith) ∙ e)
-
-  -- up to the last.
+  -- Every row kept, and zeros past them: the whole list.
   pub part_all : (list : List ℕ) → PartBelow part t (row_count t) list → ZerosFrom (row_count t) list → list ≡ kept_from part t 0 256
   part_all list p z =
       ext_get_or 0 list (kept_from part t 0 256) (z.whole ∙ sym (kept_length 0 256))
@@ -92,25 +79,12 @@ zeros_first e =
       zero = λ row h. ap (λ (l : List ℕ). get_or l row 0) e ∙ zeros_get 256 row;
     }
 
--- A row that is kept leaves those after it as they were,
-pub same_next : (row : ℕ) (before list : List ℕ) (value : ℕ) → SameFrom row before list → SameFrom (row + 1) before (set list row value)
-same_next row before list value s =
-    record {
-      whole = length-set list row value ∙ s.whole;
-      same = λ r l. get_or-set_other list row r value 0 (λ q. omega arith) ∙ s.same r (omega arith);
-    }
-
--- and so zeros stay zeros.
+-- What is left as it was keeps its zeros.
 pub zeros_same : (first bound : ℕ) (before list : List ℕ) → first ≤ bound → ZerosFrom first before → SameFrom bound before list → ZerosFrom bound list
 zeros_same first bound before list h z s =
     record { whole = s.whole; zero = λ r l. s.same r l ∙ z.zero r (omega arith) }
 
 -- ---- a row below the bound
-
--- What is kept of it is its layout.
-pub kept_row : {t : TypeTable} {bound : ℕ} {sizes alignments : List ℕ} → KeptBelow t bound sizes alignments
-    → (row : ℕ) → row < bound → layout (get_or sizes row 0) (get_or alignments row 0) ≡ layout_of t row
-kept_row k row h = rw (k.size row h, k.alignment row h)
 
 -- With a row, each row below it can be laid out.
 pub inner_layable : {t : TypeTable} {kept row : ℕ} {sizes alignments : List ℕ} → Layable t kept row sizes alignments
@@ -123,36 +97,24 @@ inner_layable {t} l inner h =
       few = l.few;
     }
 
--- A row that fits is sound when its size is small enough.
-pub judged_by_size : (t : TypeTable) (row : ℕ) (l : Layout) (small : Bool) → Fits t row → l ≡ layout_of t row → leb l.size 65528 ≡ small
-    → judged_if small l ≡ judged t row
-unfolding row_sound
-judged_by_size t row l small fits e size =
-    ap (λ b. judged_if b l) (sym size) ∙ ap (λ x. judged_if (leb x.size 65528) x) e ∙ rw fits
-
 -- What the judgement of a row says.
-judged_laid_case : (sound : Bool) (whole l : Layout) → judged_if sound whole ≡ Laid l → (sound ≡ true) × (l ≡ whole)
-judged_laid_case true whole l e = (refl, cc)
-judged_laid_case false whole l e = (cc, cc)
+judged_laid_case : (sound : Bool) (row : ℕ) (whole l : Layout) → judged_if sound row whole ≡ Ok l → (sound ≡ true) × (l ≡ whole)
+judged_laid_case true row whole l e = (refl, cc)
+judged_laid_case false row whole l e = (cc, cc)
 
-pub judged_laid : (t : TypeTable) (row : ℕ) (r : Judged) (l : Layout) → r ≡ judged t row → r ≡ Laid l
+pub judged_laid : (t : TypeTable) (row : ℕ) (r : Result Layout Fault) (l : Layout) → r ≡ judged t row → r ≡ Ok l
     → (row_sound t row ≡ true) × (l ≡ layout_of t row)
-judged_laid t row r l e q = judged_laid_case (row_sound t row) (layout_of t row) l (sym e ∙ q)
+judged_laid t row r l e q = judged_laid_case (row_sound t row) row (layout_of t row) l (sym e ∙ q)
 
-judged_bad_case : (sound : Bool) (whole : Layout) → judged_if sound whole ≡ Bad → sound ≡ false
-judged_bad_case true whole e = cc
-judged_bad_case false whole e = refl
+judged_bad_case : (sound : Bool) (row : ℕ) (whole : Layout) (f : Fault) → judged_if sound row whole ≡ Err f → (sound ≡ false) × (f ≡ refused_at row)
+judged_bad_case true row whole f e = (cc, cc)
+judged_bad_case false row whole f e = (refl, cc)
 
-pub judged_bad : (t : TypeTable) (row : ℕ) (r : Judged) → r ≡ judged t row → r ≡ Bad → row_sound t row ≡ false
-judged_bad t row r e q = judged_bad_case (row_sound t row) (layout_of t row) (sym e ∙ q)
+pub judged_bad : (t : TypeTable) (row : ℕ) (r : Result Layout Fault) (f : Fault) → r ≡ judged t row → r ≡ Err f
+    → (row_sound t row ≡ false) × (f ≡ refused_at row)
+judged_bad t row r f e q = judged_bad_case (row_sound t row) row (layout_of t row) f (sym e ∙ q)
 
 -- ---- for who reads what was prepared
-
-pub verdict_sound : (t : TypeTable) (v : Soundness) → verdict_of v ≡ soundness t → v ≡ Sound → soundness t ≡ accepted tt
-verdict_sound t v e q = sym e ∙ ap verdict_of q
-
-pub verdict_refused : (t : TypeTable) (v : Soundness) (f : Fault) → verdict_of v ≡ soundness t → v ≡ Refused f → soundness t ≡ refused f
-verdict_refused t v f e q = sym e ∙ ap verdict_of q
 
 -- A lent array after a sound table was prepared.
 pub given_sound : (t : TypeTable) (given before : List ℕ) {after : List ℕ} → soundness t ≡ accepted tt → after ≡ given_if_sound t given before → after ≡ given

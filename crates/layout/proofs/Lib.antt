@@ -3,9 +3,10 @@ pub mod Structs
 pub mod Bounds
 pub mod Elements
 pub mod Members
+pub mod MemberLists
+pub mod Entries
 pub mod Keeping
 pub mod Climbing
-pub mod Numbers
 pub mod Roots
 pub mod ByKind
 pub mod Below

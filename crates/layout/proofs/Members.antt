@@ -54,10 +54,6 @@ module _ {t : TypeTable} {row next left : ℕ} {before : Layout} (p : Placing t 
   pub placing_last : left ≡ 0 → closed before ≡ layout_of t row
   placing_last none = sym (p.whole ∙ rw (none, placed_none))
 
-  -- What closing the struct after its last member asks for.
-  pub closeable : Alignment before.alignment × (before.size ≤ 67108864)
-  closeable = (p.aligned, omega (arith, p.end))
-
   module _ (some : 0 < left) where
     pub next_below : row_of t next < row
     next_below = (member_fits t row next left p.ordinal some p.members).below

@@ -3,7 +3,7 @@
 use Rattle.std.specs.Prelude.{if◌then◌else◌}
 use mathlib.Core.Bool.{Bool, true, false, ◌&&◌}
 use mathlib.Core.Path.{◌≡◌, refl, ap, sym, ◌∙◌}
-use Prim.Native.Nat.{ℕ, zero, suc, ◌+◌, ◌-◌, ◌%◌, ◌^◌, ◌≤◌, ◌<◌}
+use Prim.Native.Nat.{ℕ, zero, suc, ◌+◌, ◌-◌, ◌%◌, ◌≤◌, ◌<◌}
 use native.Mathlib.Nat.{not-suc-le-zero}
 use native.Mathlib.Numerals.{sub-one, add-one}
 use native.Mathlib.Omega.{arith}
@@ -14,7 +14,7 @@ use Rattle.rules.proofs.Tests.{both}
 use Rattle.rules.specs.declared.Fault.{Fault}
 use Rattle.rules.specs.declared.Layout.{Layout}
 use Rattle.rules.specs.Refusals.{Answer, accepted, refused, require}
-use Rattle.rules.specs.TypeTable.{TypeTable, row_count, member_count, kind_at, a_at, b_at, c_at, row_of, ordinal_at, entry_at, array, struct, strict_enum, strict_bits, none, type_as, type_of, below}
+use Rattle.rules.specs.TypeTable.{TypeTable, row_count, member_count, kind_at, a_at, b_at, c_at, row_of, ordinal_at, array, struct, strict_enum, strict_bits, none, type_as, type_of, below}
 use Rattle.rules.specs.Sizes.{layout, layout_step, layout_as, layout_below, layout_of, size_of}
 use Rattle.rules.specs.Sound.{lists_whole, struct_members, rising_members, rising_entries, members_exist, entries_exist, width_allowed, row_fits, row_sound, rows_sound, soundness}
 use Rattle.layout.specs.Kept.{Fits, SoundBelow}
@@ -193,14 +193,7 @@ pub rising_none : (t : TypeTable) (first before : ℕ) → rising_members t firs
 unfolding rising_members
 rising_none t first before = refl
 
--- One entry of a strict enum, or the mask of strict bits.
-pub entries_step : (t : TypeTable) (width first count least : ℕ) → 0 < count
-    → rising_entries t width first count least
-    ≡ ((leb least (entry_at t first) && ltb (entry_at t first) (256 ^ width)) && rising_entries t width (first + 1) (count - 1) (suc (entry_at t first)))
-unfolding rising_entries
-entries_step t width first zero least h = absurd (not-suc-le-zero h)
-entries_step t width first (suc count) least h = rw (add-one first, sub-one (suc count))
-
+-- No entry of a strict enum.
 pub entries_none : (t : TypeTable) (width first least : ℕ) → rising_entries t width first 0 least ≡ true
 unfolding rising_entries
 entries_none t width first least = refl

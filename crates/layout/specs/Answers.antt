@@ -1,36 +1,11 @@
--- What the answers of this crate's public functions mean in the rules.
+-- What this crate's public functions answer beside a `Result`: a root, and the arrays lent.
 -- Assumes nothing.
 use Rattle.std.specs.Prelude.{Bool, List, [], ◌∷◌, ◌≡◌, ℕ, zero, suc, ltb, if◌then◌else◌}
 use Rattle.rules.specs.declared.Layout.{Layout}
-use Rattle.rules.specs.Refusals.{place_number, Answer, accepted, refused}
+use Rattle.rules.specs.Refusals.{Answer, accepted, refused}
 use Rattle.rules.specs.TypeTable.{TypeTable, row_count}
 use Rattle.rules.specs.Sizes.{layout_of}
 use Rattle.rules.specs.Sound.{soundness, root_allowed}
-use Rattle.rules.specs.Answers.{Numbers}
-use Rattle.layout.specs.declared.Soundness.{Soundness}
-use Rattle.layout.specs.declared.Soundness.TheVariants as S
-use Rattle.layout.specs.declared.LayoutAnswer.{LayoutAnswer}
-use Rattle.layout.specs.declared.LayoutAnswer.TheVariants as L
-
--- The verdict on a type table: sound, or 1.
-abbrev pub verdict_of : Soundness → Answer (Unit {0})
-verdict_of S.Sound = accepted tt
-verdict_of (S.Refused f) = refused f
-
--- Document 01's number, place and values of each case.
-abbrev pub verdict_numbers : Soundness → Numbers
-verdict_numbers S.Sound = record { number = 0; place = 0; values = [] }
-verdict_numbers (S.Refused f) = record { number = f.number; place = place_number f.place; values = [] }
-
--- What the layout calculator answers: the layout, or 1 or 2.
-abbrev pub answer_of : LayoutAnswer → Answer Layout
-answer_of (L.Laid l) = accepted l
-answer_of (L.Refused f) = refused f
-
--- Document 01's number, place and values of each case.
-abbrev pub answer_numbers : LayoutAnswer → Numbers
-answer_numbers (L.Laid l) = record { number = 0; place = 0; values = l.size ∷ l.alignment ∷ [] }
-answer_numbers (L.Refused f) = record { number = f.number; place = place_number f.place; values = 0 ∷ 0 ∷ [] }
 
 -- A root is allowed by the rows alone: under every type table that has them.
 abbrev pub RootIs : (rows : List ℕ) (root : ℕ) → Bool → Type 0

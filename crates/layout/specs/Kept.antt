@@ -1,17 +1,14 @@
 -- On the way up the rows of a type table: what is known of the rows below, and the judgement of one row.
 -- Assumes nothing.
-use Rattle.std.specs.Prelude.{Bool, true, false, List, ◌≡◌, ℕ, ◌≤◌, ◌<◌, get_or, length, replicate}
+use Rattle.std.specs.Prelude.{Bool, true, false, List, [], ◌∷◌, ◌≡◌, ℕ, ◌+◌, ◌/◌, ◌≤◌, ◌<◌, get_or, length, replicate, Result, Ok, Err}
+use Rattle.rules.specs.declared.Fault.{Fault}
 use Rattle.rules.specs.declared.Layout.{Layout}
 use Rattle.rules.specs.declared.Place.TheVariants.{Row}
 use Rattle.rules.specs.Refusals.{table_not_sound, fault, accepted}
-use Rattle.rules.specs.TypeTable.{TypeTable, row_count, type_of}
+use Rattle.rules.specs.TypeTable.{TypeTable, row_count, ordinal_in, row_in, type_of}
 use Rattle.rules.specs.Sizes.{layout_of}
 use Rattle.rules.specs.Sound.{row_fits, row_sound, soundness}
-use Rattle.layout.specs.declared.Soundness.{Soundness}
-use Rattle.layout.specs.declared.Soundness.TheVariants.{Refused}
-use Rattle.layout.specs.Answers.{verdict_of}
-use Rattle.layout.specs.declared.climb.Judged.{Judged}
-use Rattle.layout.specs.declared.climb.Judged.TheVariants.{Laid, Bad}
+use Rattle.rules.specs.Answers.{answer_of}
 
 -- A row has its line of the table of kinds.
 abbrev pub Fits : TypeTable → (row : ℕ) → Type 0
@@ -55,20 +52,26 @@ pub record SameFrom (bound : ℕ) (before after : List ℕ) : Type 0 where
   pub same : (row : ℕ) → bound ≤ row → get_or after row 0 ≡ get_or before row 0
 
 -- At the top: the verdict, and of a sound table every row is kept.
-pub record Climbed (t : TypeTable) (r : Soundness) (sizes-before alignments-before sizes alignments : List ℕ) : Type 0 where
-  pub verdict : verdict_of r ≡ soundness t
+pub record Climbed (t : TypeTable) (r : Result (Unit {0}) Fault) (sizes-before alignments-before sizes alignments : List ℕ) : Type 0 where
+  pub verdict : answer_of r ≡ soundness t
   pub kept : soundness t ≡ accepted tt → KeptBelow t (row_count t) sizes alignments
   pub size_rest : soundness t ≡ accepted tt → SameFrom (row_count t) sizes-before sizes
   pub alignment_rest : soundness t ≡ accepted tt → SameFrom (row_count t) alignments-before alignments
 
--- A row on its own: its layout, if it is sound.
-abbrev pub judged_if : (sound : Bool) → Layout → Judged
-judged_if true l = Laid l
-judged_if false l = Bad
-
-abbrev pub judged : TypeTable → (row : ℕ) → Judged
-judged t row = judged_if (row_sound t row) (layout_of t row)
-
 -- 1, at a row.
-abbrev pub refused_at : (row : ℕ) → Soundness
-refused_at row = Refused (fault table_not_sound (Row row))
+abbrev pub refused_at : (row : ℕ) → Fault
+refused_at row = fault table_not_sound (Row row)
+
+-- A row on its own: its layout, if it is sound.
+abbrev pub judged_if : (sound : Bool) (row : ℕ) → Layout → Result Layout Fault
+judged_if true row l = Ok l
+judged_if false row l = Err (refused_at row)
+
+abbrev pub judged : TypeTable → (row : ℕ) → Result Layout Fault
+judged t row = judged_if (row_sound t row) row (layout_of t row)
+
+-- The `count` members from `first` on, each an ordinal and a row.
+pub record Members (members : List ℕ) (first count : ℕ) (some : List (List ℕ)) : Type 0 where
+  pub exist : first + count ≤ length members / 2
+  pub whole : length some ≡ count
+  pub each : (i : ℕ) → i < count → get_or some i [] ≡ ordinal_in members (first + i) ∷ row_in members (first + i) ∷ []

@@ -4,6 +4,7 @@ use Rattle.std.specs.Prelude.{List, [], ◌≡◌, ℕ, ◌≤◌, ◌<◌}
 use Rattle.rules.specs.Refusals.{accepted}
 use Rattle.rules.specs.TypeTable.{TypeTable, eight_byte_envelopes, type_table, row_count}
 use Rattle.rules.specs.Sound.{soundness}
+use Rattle.layout.specs.declared.laid.Laid.{Laid}
 use Rattle.layout.specs.Answers.{kept_sizes, kept_alignments}
 
 -- A sound type table of the edition with 8-byte envelopes, with the sizes and alignments that are kept of its rows; so much depth left; a row in
@@ -15,6 +16,10 @@ pub record Ready (t : TypeTable) (sizes alignments : List ℕ) (depth row : ℕ)
   pub alignments_kept : alignments ≡ kept_alignments t
   pub depth_left : depth ≤ 32
   pub in_use : row < row_count t
+
+-- The type table of what is at hand.
+abbrev pub table_in : Laid → TypeTable
+table_in l = type_table l.rows.now l.members.now l.entries.now
 
 -- Some type table: what holds under any holds under this one, which has no rows.
 abbrev pub some_table : TypeTable

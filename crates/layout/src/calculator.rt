@@ -5,7 +5,7 @@ ghost use Rattle.rules.specs.TypeTable.{type_table, kind_at};
 ghost use Rattle.rules.specs.Sizes.{layout, layout_of};
 ghost use Rattle.layout.specs.Kept.{Layable};
 
-use crate::sizes::{array_layout, close, fixed_layout, place};
+use crate::sizes::{array_layout, close, fixed_layout, layout, place};
 use rules::Layout;
 
 // What is kept of a row.
@@ -13,10 +13,10 @@ pub(crate) fn kept_at(sizes: &[u32; 256], alignments: &[u32; 256], row: u32) -> 
     ensures { result ≡ layout (get_or sizes.now row 0) (get_or alignments.now row 0) }
 {
     let at = row as usize;
-    Layout {
-        size: words::number_at(sizes, at) as usize,
-        alignment: words::number_at(alignments, at) as usize,
-    }
+    layout(
+        words::item_at(sizes, at) as usize,
+        words::item_at(alignments, at) as usize,
+    )
 }
 
 // An element's or a member's row: below `kept` it is looked up, so that the row that names it takes one step a member.
@@ -78,26 +78,18 @@ fn struct_layout(
     requires row_value { kind_at (type_table rows.now members.now entries.now) row ≡ 7 }
     ensures { result ≡ layout_of (type_table rows.now members.now entries.now) row }
 {
-    let mut next = table::a_at(rows, row as usize);
-    let mut left = table::b_at(rows, row as usize);
-    if left == 0 {
-        return Layout {
-            size: 1,
-            alignment: 1,
-        };
+    let first = table::a_at(rows, row as usize);
+    let count = table::b_at(rows, row as usize);
+    if count == 0 {
+        return layout(1, 1);
     }
-    let mut so_far = Layout {
-        size: 0,
-        alignment: 1,
-    };
-    while 0 < left {
-        let inner = table::row_of(members, next as usize);
+    let mut so_far = layout(0, 1);
+    for member in first..first + count {
+        let inner = table::row_of(members, member as usize);
         so_far = place(
             so_far,
             inner_layout(rows, members, entries, sizes, alignments, kept, inner),
         );
-        next += 1;
-        left -= 1;
     }
     close(so_far)
 }

@@ -12,22 +12,16 @@ const MESSAGE_ROOM: usize = 8193;
 const TEXT_ROOM: usize = 524288;
 
 fn main(rt: HostRuntime) -> io::Result<()> {
-    let mut message = message_room();
-    let mut text = text_room();
+    let mut message: [u8; MESSAGE_ROOM] = room();
+    let mut text: [u8; TEXT_ROOM] = room();
     let count = console::read_full(&mut rt.stdin(), &mut message)?;
     let length = listing::listing(&message[..count], &mut text);
     rt.write_all(&text[..length])
 }
 
-// The contracts give the lengths alone, so that no proof goes into a long list.
-fn message_room() -> [u8; MESSAGE_ROOM]
-    ensures { 8193 ≡ length result }
+// The contract gives the length alone, so that no proof goes into a long list.
+fn room<const N: usize>() -> [u8; N]
+    ensures { N ≡ length result }
 {
-    [0; MESSAGE_ROOM]
-}
-
-fn text_room() -> [u8; TEXT_ROOM]
-    ensures { 524288 ≡ length result }
-{
-    [0; TEXT_ROOM]
+    [0; N]
 }

@@ -1,5 +1,6 @@
 -- What the reader's answer, and the lists that it leaves, show of the listing.
 -- Assumes nothing.
+use Rattle.std.specs.Prelude.{Ok, Err}
 use mathlib.Core.Path.{◌≡◌, sym, ap, ◌∙◌}
 use mathlib.Core.List.{List, append-nil}
 use Prim.Native.Nat.{ℕ, ◌≤◌, ◌<◌}
@@ -10,25 +11,13 @@ use lib.Seq.{sets, take-append_seam, length-take-le}
 use Rattle.rules.specs.declared.Fault.{Fault}
 use Rattle.rules.specs.declared.Place.TheVariants.{Byte}
 use Rattle.rules.specs.Refusals.{fault, place_number, Answer, accepted, refused, lent_after}
-use Rattle.rules.specs.Answers.{Lists, read, numbers_of, both_counted}
+use Rattle.rules.specs.Answers.{Lists, read, answer_of}
 use Rattle.reader.specs.declared.Lengths.{Lengths}
-use Rattle.reader.specs.declared.Reading.{Reading}
-use Rattle.reader.specs.declared.Reading.TheVariants.{Accepted, Refused}
-use Rattle.reader.specs.Answers.{reading_of, reading_numbers, lengths_of, values_in, objects_in}
+use Rattle.reader.specs.Answers.{lengths_of, values_in, objects_in}
 use Rattle.listing.specs.Lines.{largest, Puts}
 use Rattle.listing.specs.Listing.{message_of, answered, head, body, listing_of, listing}
 use Rattle.listing.proofs.Putting.{puts_then}
 use Rattle.listing.proofs.Enough.{enough}
-
--- What is left in lists that were lent to the reader, with its answer.
-abbrev pub Read : (given : Answer Lists) (values objects : List ℕ) (reading : Reading) (values' objects' : List ℕ) → Type 0
-Read given values objects reading values' objects' =
-    record {
-      answer : reading_of reading ≡ lengths_of given;
-      values : values' ≡ lent_after (values_in given) values;
-      objects : objects' ≡ lent_after (objects_in given) objects;
-      numbers : reading_numbers reading ≡ numbers_of 2 both_counted given;
-    }
 
 -- The lists of an accepted message stand at the start of those that were lent.
 pub record Listed (answer : Answer Lists) (l : Lengths) (values' objects' : List ℕ) : Type 0 where
@@ -37,17 +26,17 @@ pub record Listed (answer : Answer Lists) (l : Lengths) (values' objects' : List
   pub objects_within : l.objects ≤ length objects'
 
 pub listed :
-    (answer : Answer Lists) (values objects : List ℕ) {reading : Reading} {values' objects' : List ℕ} {l : Lengths} →
-    Read answer values objects reading values' objects' → reading ≡ Accepted l → Listed answer l values' objects'
-listed (accepted lists) values objects {l = l} read is =
-    let says = read.answer in
+    (given : Answer Lists) (values objects : List ℕ) {values' objects' : List ℕ} {l : Lengths} →
+    answer_of (Ok l) ≡ lengths_of given → values' ≡ lent_after (values_in given) values → objects' ≡ lent_after (objects_in given) objects →
+    Listed given l values' objects'
+listed (accepted lists) values objects {l = l} says values-are objects-are =
     let lengths : l ≡ record { values = length lists.values; objects = length lists.objects } = cc in
     record {
-      lists = rw (lengths, read.values, read.objects, take-append_seam, take-append_seam);
-      values_within = rw (lengths, read.values, length-append) (omega arith);
-      objects_within = rw (lengths, read.objects, length-append) (omega arith);
+      lists = rw (lengths, values-are, objects-are, take-append_seam, take-append_seam);
+      values_within = rw (lengths, values-are, length-append) (omega arith);
+      objects_within = rw (lengths, objects-are, length-append) (omega arith);
     }
-listed (refused f) values objects read is = let says = read.answer in let z : ◌≡◌ {A = ℕ} 0 1 = cc in absurd (omega arith)
+listed (refused f) values objects says values-are objects-are = let z : ◌≡◌ {A = ℕ} 0 1 = cc in absurd (omega arith)
 
 -- The parts of the lists that are listed: as many numbers as are told, and no more than there is room for.
 pub record Parts (l : Lengths) (values' objects' : List ℕ) : Type 0 where
@@ -65,11 +54,9 @@ parts {l = l} {values'} {objects'} lists v o = record {
   few_values = omega (arith, lists.values_within);
 }
 
-refused_answer :
-    (answer : Answer Lists) (values objects : List ℕ) {reading : Reading} {values' objects' : List ℕ} {f : Fault} →
-    Read answer values objects reading values' objects' → reading ≡ Refused f → answer ≡ refused f
-refused_answer (accepted lists) values objects read is = let says = read.answer in let z : ◌≡◌ {A = ℕ} 0 1 = cc in absurd (omega arith)
-refused_answer (refused g) values objects read is = let says = read.answer in cc
+refused_answer : (given : Answer Lists) {f : Fault} → answer_of (Err f) ≡ lengths_of given → given ≡ refused f
+refused_answer (accepted lists) says = let z : ◌≡◌ {A = ℕ} 0 1 = cc in absurd (omega arith)
+refused_answer (refused g) says = cc
 
 -- ---- the listing
 
@@ -101,21 +88,19 @@ answered_is : (bytes values objects : List ℕ) → length bytes ≤ 8192 → Le
 answered_is bytes values objects short lent =
     simp (le-leb _ _ short) (sym (enough (message_of bytes) 4 (length values) (length objects) (omega arith) (omega arith)))
 
-module _
-    (bytes values objects : List ℕ) (short : length bytes ≤ 8192) (lent : Lent values objects)
-    (reading : Reading) {values' objects' : List ℕ}
-    (from : Read (read (message_of bytes) 4 (length values) (length objects)) values objects reading values' objects') where
+module _ (bytes values objects : List ℕ) (short : length bytes ≤ 8192) (lent : Lent values objects) where
   pub listing_refused : {f : Fault} {out after : List ℕ} {r : ℕ}
-      → reading ≡ Refused f → Puts out 0 (head f.number (place_number f.place)) 55 r after → Whole bytes out r after
-  listing_refused is put =
-      let e = answered_is bytes values objects short lent ∙ refused_answer _ values objects from is in
+      → answer_of (Err f) ≡ lengths_of (read (message_of bytes) 4 (length values) (length objects))
+      → Puts out 0 (head f.number (place_number f.place)) 55 r after → Whole bytes out r after
+  listing_refused says put =
+      let e = answered_is bytes values objects short lent ∙ refused_answer _ says in
       whole bytes (listing_is bytes e ∙ append-nil _) (omega arith) put
 
-  pub listing_accepted : {l : Lengths} {out mid after : List ℕ} {next r most : ℕ}
-      → reading ≡ Accepted l → most ≤ 524233
+  pub listing_accepted : {l : Lengths} {values' objects' out mid after : List ℕ} {next r most : ℕ}
+      → Listed (read (message_of bytes) 4 (length values) (length objects)) l values' objects' → most ≤ 524233
       → Puts out 0 (head 0 0) 55 next mid
       → Puts mid next (body (length bytes) (record { values = take l.values values'; objects = take l.objects objects' })) most r after
       → Whole bytes out r after
-  listing_accepted is few head-put lists-put =
-      let e = answered_is bytes values objects short lent ∙ (listed _ values objects from is).lists in
+  listing_accepted lists few head-put lists-put =
+      let e = answered_is bytes values objects short lent ∙ lists.lists in
       whole bytes (listing_is bytes e) (omega arith) (puts_then head-put lists-put)

@@ -1,12 +1,13 @@
 -- Laws of text that is put into a lent output.
 -- Assumes nothing.
-use mathlib.Core.Path.{◌≡◌, refl}
+use mathlib.Core.Path.{◌≡◌, refl, ap, ◌∙◌}
 use mathlib.Core.List.{List, [], ◌∷◌, ◌++◌}
-use Prim.Native.Nat.{ℕ, zero, suc, ◌+◌, ◌/◌, ◌%◌, ◌≤◌, ◌<◌}
-use native.Mathlib.Nat.{suc-add}
+use Prim.Native.Nat.{ℕ, zero, suc, ◌+◌, ◌*◌, ◌/◌, ◌%◌, ◌≤◌, ◌<◌}
 use native.Mathlib.Numerals.{add-one}
 use native.Mathlib.Omega.{arith}
-use lib.ListN.{length, length-append, drop, get_or, drop_of_length-le}
+use lib.ListN.{length, length-append, length-drop, take, drop, get_or, drop_of_length-le}
+use Rattle.std.proofs.Common.{drop-drop}
+use Rattle.std.specs.Simd.{first_chunks}
 use lib.Seq.{sets, length-sets, drop-cons}
 use Rattle.rules.specs.Bytes.{bytes_of}
 use Rattle.words.proofs.Stores.{sets_append, bytes_of_byte}
@@ -98,24 +99,36 @@ unfolding value_lines
 values_end values i past = rw (drop_of_length-le values past)
 
 -- and of objects, four numbers each.
-pub object_left :
-    (objects : List ℕ) (i : ℕ) → i + 4 ≤ length objects →
-    object_lines (drop i objects)
-    ≡ object_at objects i ++ object_lines (drop (i + 4) objects)
+first_object : (objects : List ℕ) → 4 ≤ length objects → object_lines objects ≡ object_at (take 4 objects) 0 ++ object_lines (drop 4 objects)
 unfolding object_lines
-object_left (k ∷ r ∷ o ∷ l ∷ objects) zero inside = refl
-object_left (k ∷ objects) (suc i) inside = rw (suc-add, suc-add, suc-add, suc-add) (object_left objects i (omega arith))
-object_left [] i inside = absurd (omega arith)
-object_left (k ∷ []) zero inside = absurd (omega arith)
-object_left (k ∷ r ∷ []) zero inside = absurd (omega arith)
-object_left (k ∷ r ∷ o ∷ []) zero inside = absurd (omega arith)
+first_object (k ∷ r ∷ o ∷ l ∷ objects) inside = refl
+first_object [] inside = absurd (omega arith)
+first_object (k ∷ []) inside = absurd (omega arith)
+first_object (k ∷ r ∷ []) inside = absurd (omega arith)
+first_object (k ∷ r ∷ o ∷ []) inside = absurd (omega arith)
 
-pub objects_end : (objects : List ℕ) (i : ℕ) → length objects < i + 4 → object_lines (drop i objects) ≡ []
+no_object : (objects : List ℕ) → length objects < 4 → object_lines objects ≡ []
 unfolding object_lines
-objects_end [] zero few = refl
-objects_end (k ∷ []) zero few = refl
-objects_end (k ∷ r ∷ []) zero few = refl
-objects_end (k ∷ r ∷ o ∷ []) zero few = refl
-objects_end (k ∷ r ∷ o ∷ l ∷ objects) zero few = absurd (omega arith)
-objects_end [] (suc i) few = refl
-objects_end (k ∷ objects) (suc i) few = objects_end objects i (omega arith)
+no_object [] few = refl
+no_object (k ∷ []) few = refl
+no_object (k ∷ r ∷ []) few = refl
+no_object (k ∷ r ∷ o ∷ []) few = refl
+no_object (k ∷ r ∷ o ∷ l ∷ objects) few = absurd (omega arith)
+
+chunk_at : (count : ℕ) (objects : List ℕ) (i : ℕ) (d : List ℕ) → i < count → get_or (first_chunks 4 count objects) i d ≡ take 4 (drop (i * 4) objects)
+chunk_at zero objects i d inside = absurd (omega arith)
+chunk_at (suc count) objects zero d inside = refl
+chunk_at (suc count) objects (suc i) d inside =
+    chunk_at count (drop 4 objects) i d (omega arith) ∙ rw drop-drop (ap (λ n. take 4 (drop n objects)) (omega arith))
+
+pub object_left :
+    (objects : List ℕ) (i : ℕ) (d : List ℕ) → i < length objects / 4 →
+    object_lines (drop (i * 4) objects)
+    ≡ object_at (get_or (first_chunks 4 (length objects / 4) objects) i d) 0 ++ object_lines (drop ((i + 1) * 4) objects)
+object_left objects i d inside =
+    let next : (i + 1) * 4 ≡ i * 4 + 4 = omega arith in
+    first_object (drop (i * 4) objects) (omega (arith, length-drop (i * 4) objects))
+    ∙ rw (chunk_at (length objects / 4) objects i d inside, next, ← drop-drop 4 (i * 4) objects)
+
+pub objects_end : (objects : List ℕ) (i : ℕ) → length objects / 4 ≤ i → object_lines (drop (i * 4) objects) ≡ []
+objects_end objects i ended = no_object (drop (i * 4) objects) (omega (arith, length-drop (i * 4) objects))

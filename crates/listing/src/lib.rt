@@ -10,8 +10,7 @@ ghost use Rattle.listing.specs.Lines.{largest, Puts};
 ghost use Rattle.listing.specs.Listing.{head, counts, body, listing as listing-of};
 
 use lines::{put_line, put_objects, put_values};
-use reader::Reading;
-use rules::{Fault, Place, place_number};
+use rules::{Fault, Place, Refusal, place_number};
 
 // The type table of document 01's cases.
 const ROWS: [u32; 20] = [2, 1, 0, 0, 2, 2, 0, 0, 6, 0, 8, 1, 7, 0, 2, 0, 9, 2, 3, 0];
@@ -60,17 +59,11 @@ fn put_lists(out: &mut [u8], at: usize, bytes: usize, objects: &[u32], values: &
 // Values and objects of a message together are at most as many numbers as it has bytes, and four: room enough for each.
 const NUMBERS: usize = LONGEST + 4;
 
-// The contracts give the lengths alone, so that no proof goes into a long list.
-fn values_room() -> [u64; NUMBERS]
+// The contract gives the length alone, so that no proof goes into a long list.
+fn room<T: Copy>(value: T) -> [T; NUMBERS]
     ensures { 8196 ≡ length result }
 {
-    [0; NUMBERS]
-}
-
-fn objects_room() -> [u32; NUMBERS]
-    ensures { 8196 ≡ length result }
-{
-    [0; NUMBERS]
+    [value; NUMBERS]
 }
 
 // The listing of a message, whole, at the start of the output, what there is room for; past it the output keeps what it
@@ -81,36 +74,31 @@ pub fn listing(message: &[u8], out: &mut [u8]) -> usize
     ensures room { result ≤ largest }
 {
     if LONGEST < message.len() {
-        let too_long = Fault {
-            number: 3,
-            place: Place::Byte(0),
-        };
+        let too_long = Refusal::MessageTooLong.at(Place::Byte(0));
         return put_refusal(out, too_long);
     }
-    let mut values = values_room();
-    let mut objects = objects_room();
-    let no_entries = [0u64; 0];
-    match reader::read(
+    let mut values = room(0u64);
+    let mut objects = room(0u32);
+    let read = reader::read(
         &ROWS,
         &MEMBERS,
-        &no_entries,
+        &[],
         ROOT,
         message,
         0,
         &mut values,
         &mut objects,
-    ) {
-        Reading::Refused(f) => put_refusal(out, f),
-        Reading::Accepted(lengths) => {
-            let object_numbers = lengths.objects;
-            let value_numbers = lengths.values;
+    );
+    match read {
+        Err(f) => put_refusal(out, f),
+        Ok(lengths) => {
             let next = put_head(out, 0, 0);
             put_lists(
                 out,
                 next,
                 message.len(),
-                &objects[..object_numbers],
-                &values[..value_numbers],
+                &objects[..lengths.objects],
+                &values[..lengths.values],
             )
         }
     }

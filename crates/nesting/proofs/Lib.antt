@@ -12,4 +12,5 @@ pub mod Going
 pub mod Turns
 pub mod Algebra
 pub mod Runs
+pub mod Counted
 pub mod Work

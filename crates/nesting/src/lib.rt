@@ -54,10 +54,10 @@ fn next_offset(
     ensures { (result ≡ next_offset members.now alignments.now row member end offset) × (result < 8589934592) }
 {
     if member + 1 == end {
-        return words::round_up(offset, words::number_at(alignments, row)) as usize;
+        return words::round_up(offset, words::item_at(alignments, row)) as usize;
     }
     let next = table::row_of(members, member + 1) as usize;
-    words::round_up(offset, words::number_at(alignments, next)) as usize
+    words::round_up(offset, words::item_at(alignments, next)) as usize
 }
 
 // The row of the member or element that comes next in it.

@@ -1,19 +1,18 @@
 -- The members of a table or union in a sound type table: their ordinals rise, and their rows are in use.
 -- Assumes nothing.
-use Rattle.std.specs.Prelude.{if◌then◌else◌}
+use Rattle.std.specs.Prelude.{Option, Some, None}
 use mathlib.Core.Bool.{Bool, true, false, ◌&&◌}
 use mathlib.Core.List.{List}
 use mathlib.Core.Path.{◌≡◌, refl, sym, ◌∙◌}
 use Prim.Native.Nat.{ℕ, zero, suc, ◌+◌, ◌≤◌, ◌<◌}
 use native.Mathlib.Omega.{arith}
 use borrow.Author.Tests.{leb-true, ltb-true, eqb-true, eqb-false}
+use Rattle.std.proofs.lemmas.Grind.{common_steps}
 use lib.Dec.{ltb, leb, eqb}
 use Rattle.rules.specs.TypeTable.{TypeTable, row_count, member_count, kind_at, a_at, b_at, c_at, ordinal_at, row_of, known, content_of}
 use Rattle.rules.specs.Sound.{rising_members, members_exist, row_fits}
 use Rattle.rules.proofs.Tests.{both}
 use Rattle.layout.proofs.Rows.{sound_row, OtherKind, other_kind}
-use Rattle.ordinals.specs.declared.Ordinal.{Ordinal}
-use Rattle.ordinals.specs.declared.Ordinal.TheVariants.{Known, Unknown}
 use Rattle.ordinals.specs.Ordinals.{ordinal_is, halved, Rising, OrdinalFits}
 use Rattle.layout.specs.Ready.{Ready, Outside}
 use Rattle.layout.proofs.ByKind.{fits_kind}
@@ -39,13 +38,10 @@ stepwise t first (suc count) before e =
 
 content_in_use : (t : TypeTable) (first count before ordinal : ℕ) {row : ℕ} → rising_members t first count before ≡ true → content_of t first count ordinal ≡ known row → row < row_count t
 unfolding content_of
-content_in_use t first zero before ordinal e q = absurd (let z : ◌≡◌ {A = ℕ} 0 1 = cc in omega arith)
-content_in_use t first (suc count) before ordinal {row} e q = go (eqb (ordinal_at t first) ordinal) (λ z. content_in_use t (suc first) count (ordinal_at t first) ordinal (first_member t first count before e).2 z) q
-  where
-    go : (b : Bool) → (content_of t (suc first) count ordinal ≡ known row → row < row_count t)
-        → (if b then known (row_of t first) else content_of t (suc first) count ordinal) ≡ known row → row < row_count t
-    go true later z = let s : row_of t first ≡ row = cc in omega (arith, (first_member t first count before e).1)
-    go false later z = later z
+content_in_use t first zero before ordinal e q = (cc)
+content_in_use t first (suc count) before ordinal {row} e q =
+    let p = first_member t first count before e in
+    grind (arith, common_steps, p.1, content_in_use t (suc first) count (ordinal_at t first) ordinal {row = row} p.2)
 
 -- ---- in a sound table
 
@@ -59,13 +55,13 @@ module _ {t : TypeTable} {first count : ℕ} (m : MembersRise t first count) whe
   members_rise = pairwise (λ k. ordinal_at t k) (stepwise t first count 0 m.all)
 
   -- What the search by halves finds is what the rules say,
-  pub ordinal_content : (ordinal : ℕ) (what : Ordinal) → ordinal_is what ≡ halved t.members ordinal first count → ordinal_is what ≡ content_of t first count ordinal
+  pub ordinal_content : (ordinal : ℕ) (what : Option ℕ) → ordinal_is what ≡ halved t.members ordinal first count → ordinal_is what ≡ content_of t first count ordinal
   ordinal_content ordinal what e = e ∙ halved_content t first count ordinal refl m.exist members_rise
 
   -- and is in use.
-  pub ordinal_fits : (ordinal : ℕ) (what : Ordinal) → ordinal_is what ≡ content_of t first count ordinal → OrdinalFits t what
-  ordinal_fits ordinal (Known row) w = content_in_use t first count 0 ordinal m.all (sym w)
-  ordinal_fits ordinal Unknown w = tt
+  pub ordinal_fits : (ordinal : ℕ) (what : Option ℕ) → ordinal_is what ≡ content_of t first count ordinal → OrdinalFits t what
+  ordinal_fits ordinal (Some row) w = content_in_use t first count 0 ordinal m.all (sym w)
+  ordinal_fits ordinal None w = tt
 
 module _ {t : TypeTable} {sizes alignments : List ℕ} {depth row : ℕ} (ready : Ready t sizes alignments depth row) {k a : ℕ}
     (e : k ≡ kind_at t row) (f : a ≡ a_at t row) where

@@ -1,16 +1,14 @@
 -- What an ordinal stands for, searched by halves among members whose ordinals rise.
 -- Assumes nothing.
-use Rattle.std.specs.Prelude.{◌||◌, List, ◌≡◌, ℕ, zero, suc, ◌+◌, ◌/◌, ◌<◌, ltb, eqb, if◌then◌else◌}
+use Rattle.std.specs.Prelude.{◌||◌, List, ◌≡◌, ℕ, zero, suc, ◌+◌, ◌/◌, ◌<◌, ltb, eqb, if◌then◌else◌, Option, Some, None}
 use Rattle.rules.specs.TypeTable.{TypeTable, ordinal_in, row_in, row_count, Content, known, unknown, content_of}
-use Rattle.ordinals.specs.declared.Ordinal.{Ordinal}
-use Rattle.ordinals.specs.declared.Ordinal.TheVariants.{Known, Unknown}
 
-abbrev pub ordinal_is : Ordinal → Content
-ordinal_is (Known row) = known row
-ordinal_is Unknown = unknown
+abbrev pub ordinal_is : Option ℕ → Content
+ordinal_is (Some row) = known row
+ordinal_is None = unknown
 
 -- What an ordinal stands for by the members alone: under every type table that has them.
-abbrev pub ContentIs : (members : List ℕ) (first count ordinal : ℕ) → Ordinal → Type 0
+abbrev pub ContentIs : (members : List ℕ) (first count ordinal : ℕ) → Option ℕ → Type 0
 ContentIs members first count ordinal what = (t : TypeTable) → t.members ≡ members → ordinal_is what ≡ content_of t first count ordinal
 
 -- Between `low` and `high`, in at most so many steps.
@@ -34,6 +32,6 @@ abbrev pub Rising : (members : List ℕ) (first count : ℕ) → Type 0
 Rising members first count = (i j : ℕ) → i < j → j < count → ordinal_in members (first + i) < ordinal_in members (first + j)
 
 -- A known member's row is in use.
-abbrev pub OrdinalFits : TypeTable → Ordinal → Type 0
-OrdinalFits t (Known row) = row < row_count t
-OrdinalFits t Unknown = Unit {0}
+abbrev pub OrdinalFits : TypeTable → Option ℕ → Type 0
+OrdinalFits t (Some row) = row < row_count t
+OrdinalFits t None = Unit {0}

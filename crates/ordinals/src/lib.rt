@@ -4,20 +4,15 @@
 ghost use Rattle.std.specs.Prelude.{◌≡◌};
 ghost use Rattle.ordinals.specs.Ordinals.{ordinal_is, halved};
 
-// What an ordinal stands for: the row of a table's or union's member, or content that the type does not know.
-#[derive(Clone, Copy)]
-pub enum Ordinal {
-    Known(usize),
-    Unknown,
-}
-
-// The member that has an ordinal, searched by halves, so that a long table costs no more than a short one: the first
-// `count` members from `first` on have rising ordinals in a sound type table.
-pub fn ordinal_of(members: &[u32], first: usize, count: usize, ordinal: u64) -> Ordinal
+// The row of the member that has an ordinal, or `None` where the type does not know it. Searched by halves, so that a long
+// table costs no more than a short one: the first `count` members from `first` on have rising ordinals in a sound type table.
+// The search is written out: `halved` says what it finds in any list, and the library's search says that only of one that rises.
+#[tactic(auto, using(crate::proofs::Halving::searched_whole, crate::proofs::Halving::searched_none, crate::proofs::Halving::searched_here, crate::proofs::Halving::searched_up, crate::proofs::Halving::searched_down))]
+pub fn ordinal_of(members: &[u32], first: usize, count: usize, ordinal: u64) -> Option<usize>
     ensures { ordinal_is result ≡ halved members.now ordinal first count }
 {
-    if (1024 < first) | (1024 < count) {
-        return Ordinal::Unknown;
+    if 1024 < first || 1024 < count {
+        return None;
     }
     let mut low = first;
     let mut high = first + count;
@@ -25,7 +20,7 @@ pub fn ordinal_of(members: &[u32], first: usize, count: usize, ordinal: u64) -> 
         let middle = (low + high) / 2;
         let here = table::ordinal_at(members, middle) as u64;
         if here == ordinal {
-            return Ordinal::Known(table::row_of(members, middle) as usize);
+            return Some(table::row_of(members, middle) as usize);
         }
         if here < ordinal {
             low = middle + 1;
@@ -33,5 +28,5 @@ pub fn ordinal_of(members: &[u32], first: usize, count: usize, ordinal: u64) -> 
             high = middle;
         }
     }
-    Ordinal::Unknown
+    None
 }

@@ -1,4 +1,5 @@
 pub mod Planning
+pub mod Widths
 pub mod Plans
 pub mod ByPlan
 pub mod Rows

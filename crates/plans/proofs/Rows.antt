@@ -1,27 +1,30 @@
 -- What a side makes of the rows of a type table, and what follows for their parts: structs and arrays may be taken apart, and flat
 -- values go by their plan.
 -- Assumes nothing.
+use Rattle.std.specs.Prelude.{Option, Some}
 use mathlib.Core.Bool.{true}
 use mathlib.Core.List.{List}
 use mathlib.Core.Path.{◌≡◌, refl, sym, subst, ◌∙◌}
-use Prim.Native.Nat.{ℕ, ◌*◌, ◌≤◌, ◌<◌}
+use Prim.Native.Nat.{ℕ, ◌*◌, ◌<◌}
 use native.Mathlib.Omega.{arith}
 use lib.ListN.{get_or}
 use Rattle.rules.specs.Refusals.{accepted}
 use Rattle.rules.specs.TypeTable.{TypeTable, row_count, kind_at, a_at, b_at, member_rows}
 use Rattle.rules.specs.Sizes.{Field, layout_of, size_of, fields_of}
 use Rattle.rules.specs.Sound.{soundness}
-use Rattle.plans.specs.declared.Plan.{Plan}
+use Rattle.plans.specs.declared.Width.{Width}
+use Rattle.plans.specs.declared.Part.{Part}
 use Rattle.nesting.specs.Nesting.{has_parts}
-use Rattle.plans.specs.Plans.{width_layout, parts_size, parts_of, Runnable, plan_of, plan_as}
+use Rattle.plans.specs.Plans.{width_row, width_layout, Runnable, part_fields, parts_size, plan_of}
 use Rattle.layout.specs.Ready.{Ready}
-use Rattle.layout.proofs.ByKind.{width_positive}
 use Rattle.nesting.proofs.Items.{items_of, size_of_items, fields_size_lem}
 use Rattle.nesting.proofs.Left.{fields_left}
 use Rattle.nesting.proofs.Going.{Opens}
+use Rattle.layout.proofs.ByKind.{width_positive}
 use Rattle.layout.proofs.Readiness.{row_size}
 use Rattle.nesting.proofs.Starts.{Parts, members, elements, parts_of_lem, start_of, start_size, struct_fields_lem, array_fields, members_below}
-use Rattle.plans.proofs.Plans.{Flat, a_bool, a_number, AllFlat, none, more, FlatRow, bool_row, struct_row, flat_size, flat_runnable, plan_few, plan_flat, flat_row_size}
+use Rattle.plans.proofs.Widths.{bytes_laid}
+use Rattle.plans.proofs.Plans.{Flat, a_bool, a_number, AllFlat, none, more, FlatRow, bool_row, struct_row, flat_size, flat_runs, flat_runnable, plan_flat, flat_row_size}
 use Rattle.nesting.proofs.Algebra.{Algebra, Doing}
 use Rattle.nesting.proofs.Runs.{run_one}
 use Rattle.nesting.proofs.Work.{run, run_copies, run_alone, WorkLeft, work_start, work_into}
@@ -57,35 +60,36 @@ module _ {A : Algebra} {t : TypeTable} {inner width : ℕ → A.Part} (rows : Ro
 
   -- ---- flat values
 
-  flat_part : {row w : ℕ} → Flat t row w → inner row ≡ width w
+  flat_part : {row : ℕ} {w : Width} → Flat t row w → inner row ≡ width (width_row w)
   flat_part {row} (a_bool e) = rows.bool row e
-  flat_part {row} (a_number e allowed) = rows.number row e (width_positive (a_at t row) allowed)
+  flat_part {row} (a_number e allowed) = rows.number row e (width_positive _ allowed)
 
-  all_flat_lem : {fields parts : List Field} → AllFlat t fields parts → run A (layout_of t) inner (items_of fields) ≡ run A width_layout width (items_of parts)
+  all_flat_lem : {fields : List Field} {parts : List Part} → AllFlat t fields parts → run A (layout_of t) inner (items_of fields) ≡ run A width_layout width (items_of (part_fields parts))
   unfolding run items_of
   all_flat_lem none = refl
-  all_flat_lem (more f fs) = rw (flat_size f, flat_part f, all_flat_lem fs)
+  all_flat_lem (more {width = w} f fs) = rw (flat_size f, flat_part f, all_flat_lem fs, bytes_laid w (flat_runs f))
 
-  row_flat : {row : ℕ} {parts : List Field} → row < row_count t → FlatRow t row parts → inner row ≡ run A width_layout width (items_of parts)
+  row_flat : {row : ℕ} {parts : List Part} → row < row_count t → FlatRow t row parts → inner row ≡ run A width_layout width (items_of (part_fields parts))
   row_flat used (bool_row e) = rows.bool _ e ∙ sym (run_alone A width_layout width 0)
   row_flat {row} used (struct_row kind some fs) = rows.struct row used kind some ∙ all_flat_lem fs
 
-module _ {t : TypeTable} {sizes alignments : List ℕ} {depth row : ℕ} (ready : Ready t sizes alignments depth row) {plan : Plan} (made : plan ≡ plan_as (plan_of t.rows t.members alignments row)) (some : 0 < plan.count)
-    {size : ℕ} (s : size ≡ get_or sizes row 0) where
-  flat : FlatRow t row (parts_of plan)
-  flat = plan_flat ready made some
+-- A plan that was made, and its parts as they are lent.
+module _ {t : TypeTable} {sizes alignments : List ℕ} {depth row : ℕ} (ready : Ready t sizes alignments depth row) {made : Option (List Part)} (m : made ≡ plan_of t.rows t.members alignments row)
+    {plan : List Part} (some : made ≡ Some plan) {parts : List Part} (lent : parts ≡ plan) {size : ℕ} (s : size ≡ get_or sizes row 0) where
+  flat : FlatRow t row parts
+  flat = rw lent (plan_flat ready (sym m ∙ some))
 
   sized : size_of t row ≡ size
   sized = row_size ready row ready.in_use s
 
-  pub plan_asks : (Asks : ℕ → Type 0) (count : ℕ) → Asks (count * size_of t row) → (plan.count ≤ 16) × Runnable (parts_of plan) × (parts_size (parts_of plan) ≡ size) × Asks (count * size)
-  plan_asks Asks count a = (plan_few t.rows t.members alignments row made, flat_runnable flat, sym (flat_row_size ready flat) ∙ sized, rw sized at a)
+  pub plan_asks : (Asks : ℕ → Type 0) (count : ℕ) → Asks (count * size_of t row) → Runnable parts × (parts_size parts ≡ size) × Asks (count * size)
+  plan_asks Asks count a = (flat_runnable flat, sym (flat_row_size ready flat) ∙ sized, rw sized at a)
 
   -- A value by itself is a run of one.
-  pub alone_asks : (Asks : ℕ → Type 0) → Asks (size_of t row) → (plan.count ≤ 16) × Runnable (parts_of plan) × (parts_size (parts_of plan) ≡ size) × Asks (1 * size)
+  pub alone_asks : (Asks : ℕ → Type 0) → Asks (size_of t row) → Runnable parts × (parts_size parts ≡ size) × Asks (1 * size)
   alone_asks Asks a = let once : size_of t row ≡ 1 * size_of t row = omega arith in plan_asks Asks 1 (subst Asks once a)
 
-  module _ {A : Algebra} {inner width : ℕ → A.Part} (rows : RowsOf A t inner width) (D : Doing A) {part : A.Part} (by : part ≡ run A width_layout width (items_of (parts_of plan)))
+  module _ {A : Algebra} {inner width : ℕ → A.Part} (rows : RowsOf A t inner width) (D : Doing A) {part : A.Part} (by : part ≡ run A width_layout width (items_of (part_fields parts)))
       {at : ℕ} {l l' : D.Lent} {c : D.Cursor} {r : D.Answer} where
     pub plan_done : (count : ℕ) → D.Ask (count * size_of t row) at c → (D.Ask (count * size) at c → D.Did (count * size) at l l' c r (A.elements size (λ k. part) 0 count))
         → D.Did (count * size_of t row) at l l' c r (A.elements (size_of t row) (λ k. inner row) 0 count)

@@ -1,84 +1,91 @@
--- Flat values: a bool, or a struct of bools and numbers alone. A plan has their parts as fields whose row is a width, 0 for a bool.
+-- Flat values: a bool, or a struct of bools and numbers alone. A plan is a list of their parts.
 -- Assumes nothing.
-use Rattle.std.specs.Prelude.{Bool, true, ◌&&◌, List, [], ◌∷◌, ◌++◌, map, ◌≡◌, ℕ, zero, suc, ◌+◌, ◌-◌, ◌*◌, leb, eqb, length, get_or, if◌then◌else◌}
+use Rattle.std.specs.Prelude.{Bool, true, ◌&&◌, ◌≡◌, All, List, [], ◌∷◌, map, ℕ, zero, suc, ◌+◌, ◌-◌, leb, ltb, eqb, if◌then◌else◌, Option, Some, None}
+use Rattle.std.specs.Option.{option_map, option_and_then}
 use Rattle.rules.specs.declared.Layout.{Layout}
-use Rattle.rules.specs.Bytes.{zeros}
-use Rattle.rules.specs.Sizes.{Field, field, fields_size}
-use Rattle.nesting.specs.declared.Level.{Level}
-use Rattle.plans.specs.declared.Plan.{Plan}
-use Rattle.nesting.specs.Nesting.{next_part, next_place}
+use Rattle.rules.specs.Sizes.{Field, field, layout, fields_size}
 use Rattle.rules.specs.Sound.{width_allowed}
-
--- The width of a row's value: a number's own, 0 of a bool; 9, which no number has, of any other.
-abbrev pub flat_width : (rows : List ℕ) (row : ℕ) → ℕ
-flat_width rows row = if eqb (get_or rows (row * 4) 0) 1 then 0 else if eqb (get_or rows (row * 4) 0) 2 then get_or rows (row * 4 + 1) 0 else 9
+use Rattle.rules.specs.TypeTable.{kind_in, a_in, b_in}
+use Rattle.nesting.specs.declared.Level.{Level}
+use Rattle.nesting.specs.Nesting.{next_part, next_place}
+use Rattle.plans.specs.declared.Width.{Width}
+use Rattle.plans.specs.declared.Width.TheVariants.{Boolean, Bytes}
+use Rattle.plans.specs.declared.Part.{Part}
 
 -- The bytes that a value of a width takes.
-abbrev pub width_size : (width : ℕ) → ℕ
-width_size width = if eqb width 0 then 1 else width
+abbrev pub width_bytes : Width → ℕ
+width_bytes Boolean = 1
+width_bytes (Bytes bytes) = bytes
 
-abbrev pub width_layout : (width : ℕ) → Layout
-width_layout width = record { size = width_size width; alignment = 1 }
+-- A bool, or a number of a width that a sound type table has.
+abbrev pub runnable : Width → Bool
+runnable Boolean = true
+runnable (Bytes bytes) = width_allowed bytes
 
-abbrev pub parts_size : (parts : List Field) → ℕ
-parts_size parts = fields_size width_layout parts
+abbrev pub PartRuns : Part → Type 0
+PartRuns part = runnable part.width ≡ true
 
--- The parts of two lists, from one on.
-unfoldable pub parts_from : (widths fills : List ℕ) (i count : ℕ) → List Field
-parts_from widths fills i zero = []
-parts_from widths fills i (suc count) = field (get_or widths i 0) (get_or fills i 0) ∷ parts_from widths fills (i + 1) count
+abbrev pub Runnable : List Part → Type 0
+Runnable parts = All PartRuns parts
 
-abbrev pub parts_of : Plan → List Field
-parts_of plan = parts_from plan.widths plan.fills 0 plan.count
+-- ---- parts as the rules' fields, whose rows are numbers: a number's row is its bytes, a bool's is 0
 
--- Every part is a bool or a number of a width that a sound type table has.
-unfoldable pub Runnable : List Field → Type 0
-Runnable [] = Unit {0}
-Runnable (field width fill ∷ fields) = ((width ≡ 0 → ⊥) → width_allowed width ≡ true) × Runnable fields
+abbrev pub width_row : Width → ℕ
+width_row Boolean = 0
+width_row (Bytes bytes) = bytes
 
--- Every part is a bool or a number, and no fill is longer than an alignment.
-unfoldable pub all_flat : List Field → Bool
-all_flat [] = true
-all_flat (field width fill ∷ fields) = leb width 8 && (leb fill 8 && all_flat fields)
+abbrev pub width_layout : (row : ℕ) → Layout
+width_layout row = layout (if eqb row 0 then 1 else row) 1
+
+abbrev pub part_field : Part → Field
+part_field part = field (width_row part.width) part.fill
+
+abbrev pub part_fields : List Part → List Field
+part_fields parts = map part_field parts
+
+abbrev pub parts_size : List Part → ℕ
+parts_size parts = fields_size width_layout (part_fields parts)
+
+-- ---- the plan of a row's value
+
+-- The width of a number of so many bytes; a number of none, which no sound type table has, is taken as a bool.
+abbrev pub number_width : (bytes : ℕ) → Option Width
+number_width bytes =
+    if eqb bytes 0 then Some Boolean
+    else if leb bytes 8 then Some (Bytes bytes)
+    else None
+
+-- The width of a row's value, if it is a bool or a number.
+abbrev pub flat_width : (rows : List ℕ) (row : ℕ) → Option Width
+flat_width rows row =
+    if eqb (kind_in rows row) 1 then Some Boolean
+    else if eqb (kind_in rows row) 2 then number_width (a_in rows row)
+    else None
 
 module _ (rows members alignments : List ℕ) (row : ℕ) where
   -- A struct of which so many members are done.
   abbrev pub after : (done : ℕ) → Level
   after done = record { row = row; done = done; at = 0 }
 
-  abbrev pub next_width : (done : ℕ) → ℕ
+  abbrev pub next_width : (done : ℕ) → Option Width
   next_width done = flat_width rows (next_part rows members (after done))
 
-  -- The members that are left, the next of them at a place.
-  unfoldable pub flat_from : (done place left : ℕ) → List Field
-  flat_from done place zero = []
+  -- The members that are left, the next of them at a place, if each is a bool or a number and no fill is longer than an
+  -- alignment.
+  unfoldable pub flat_from : (done place left : ℕ) → Option (List Part)
+  flat_from done place zero = Some []
   flat_from done place (suc left) =
-      let stop = place + width_size (next_width done) in
+      option_and_then (λ width.
+      let stop = place + width_bytes width in
       let next = next_place rows members (after done) alignments stop in
-      field (next_width done) (next - stop) ∷ flat_from (done + 1) next left
+      if leb (next - stop) 8
+      then option_map (λ parts. record { width = width; fill = next - stop } ∷ parts) (flat_from (done + 1) next left)
+      else None) (next_width done)
 
-  abbrev pub flat_members : (count : ℕ) → List Field
-  flat_members count = if all_flat (flat_from 0 0 count) then flat_from 0 0 count else []
-
-  -- No parts where a row's value is not flat, or has more members than a plan has room for.
-  abbrev pub plan_of : List Field
+  -- None where a row's value is not flat, or has no member, or more than a plan has room for.
+  abbrev pub plan_of : Option (List Part)
   plan_of =
-      if leb 256 row then []
-      else if eqb (get_or rows (row * 4) 0) 1 then field 0 0 ∷ []
-      else if eqb (get_or rows (row * 4) 0) 7 && leb (get_or rows (row * 4 + 2) 0) 16 then flat_members (get_or rows (row * 4 + 2) 0)
-      else []
-
--- The width and the fill of a part.
-abbrev pub width_in : Field → ℕ
-width_in (field width fill) = width
-
-abbrev pub fill_in : Field → ℕ
-fill_in (field width fill) = fill
-
--- One number of each part, and zeros in the rest of a plan's sixteen places.
-abbrev pub column : (of : Field → ℕ) (parts : List Field) → List ℕ
-column of parts = map of parts ++ zeros (16 - length parts)
-
--- The plan that has these parts.
-unfoldable pub plan_as : (parts : List Field) → Plan
-plan_as parts = record { count = length parts; widths = column width_in parts; fills = column fill_in parts }
+      if leb 256 row then None
+      else if eqb (kind_in rows row) 1 then Some (record { width = Boolean; fill = 0 } ∷ [])
+      else if eqb (kind_in rows row) 7 && (ltb 0 (b_in rows row) && leb (b_in rows row) 16) then flat_from 0 0 (b_in rows row)
+      else None

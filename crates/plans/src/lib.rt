@@ -1,46 +1,85 @@
 // Flat values, which are bools and numbers alone: the plan that one or many of them are read and written by.
 #![tactic(auto)]
 
-ghost use Rattle.std.specs.Prelude.{[], ◌≡◌, ◌+◌, ◌-◌, ◌≤◌, ◌<◌};
-ghost use Rattle.plans.specs.Plans.{flat_width, width_size, flat_members, plan_of, plan_as};
+ghost use Rattle.std.specs.Prelude.{◌≡◌, ◌-◌, ◌≤◌, ◌<◌};
+ghost use Rattle.plans.specs.Plans.{number_width, flat_width, width_bytes, flat_from, plan_of};
 
 use nesting::{Level, next_part, next_place};
+use std::marker::Model;
 
-// The parts of a value of bools and numbers alone, made once for many of them: the width of each part, 0 for a bool, and
-// the fill after it. No parts where there is no plan.
-#[derive(Clone, Copy)]
-pub struct Plan {
-    pub count: usize,
-    pub widths: [u32; 16],
-    pub fills: [u32; 16],
+// What a part is: a bool, or a number of so many bytes.
+#[derive(Clone, Copy, PartialEq, Eq)]
+pub enum Width {
+    Boolean,
+    Bytes(u32),
 }
 
-// The width of a row's value in a plan; 9 where a plan can't have it.
-fn flat_width(rows: &[u32], row: usize) -> u32
+impl Width {
+    // The bytes that a value takes.
+    pub fn bytes(self) -> u32
+        ensures { result ≡ width_bytes self }
+    {
+        match self {
+            Width::Boolean => 1,
+            Width::Bytes(bytes) => bytes,
+        }
+    }
+}
+
+// A bool or a number, and the fill after it.
+#[derive(Clone, Copy, PartialEq, Eq)]
+pub struct Part {
+    pub width: Width,
+    pub fill: u32,
+}
+
+// The parts of a value of bools and numbers alone, made once for many of them: so many of an array of fixed size, as no
+// memory is asked for.
+#[derive(Drop)]
+pub struct Plan {
+    parts: [Part; 16],
+    count: usize,
+}
+
+impl Model for Plan {
+    ghost use Rattle.std.specs.Prelude.{List, take, ◌≤◌};
+    ghost use Rattle.plans.specs.declared.Part.{Part};
+
+    ghost Value = { List Part };
+
+    ghost view = { λ p. take p.count p.parts };
+
+    ghost invariant = { λ p. p.count ≤ 16 };
+}
+
+impl Plan {
+    pub fn parts(&self) -> &[Part]
+        ensures { result.now ≡ self.now }
+    {
+        &self.parts[..self.count]
+    }
+}
+
+// The width of a number of so many bytes. A row of no bytes is taken as a bool, and no sound type table has one.
+fn number_width(bytes: u32) -> Option<Width>
+    ensures { result ≡ number_width bytes }
+{
+    match bytes {
+        0 => Some(Width::Boolean),
+        1..=8 => Some(Width::Bytes(bytes)),
+        _ => None,
+    }
+}
+
+// The width of a row's value, if it is a bool or a number.
+fn flat_width(rows: &[u32], row: usize) -> Option<Width>
     ensures { result ≡ flat_width rows.now row }
 {
-    let kind = table::kind_at(rows, row);
-    if kind == 1 {
-        return 0;
+    match table::kind_at(rows, row) {
+        1 => Some(Width::Boolean),
+        2 => number_width(table::a_at(rows, row)),
+        _ => None,
     }
-    if kind == 2 {
-        return table::a_at(rows, row);
-    }
-    9
-}
-
-// The bytes that a part of a plan takes.
-pub fn width_size(width: u32) -> usize
-    ensures { result ≡ width_size width }
-{
-    if width == 0 { 1 } else { width as usize }
-}
-
-// The fill from a place up to the next.
-fn gap(stop: usize, next: usize) -> usize
-    ensures { result ≡ next - stop }
-{
-    if stop < next { next - stop } else { 0 }
 }
 
 // The plan of a struct of so many members.
@@ -50,70 +89,57 @@ fn flat_members(
     alignments: &[u32; 256],
     row: usize,
     count: usize,
-) -> Plan
+) -> Option<Plan>
     requires { (row < 256) × (count ≤ 16) }
-    ensures { result ≡ plan_as (flat_members rows.now members.now alignments.now row count) }
+    ensures { result ≡ flat_from rows.now members.now alignments.now row 0 0 count }
 {
-    let mut widths: [u32; 16] = [0; 16];
-    let mut fills: [u32; 16] = [0; 16];
+    let mut parts = [Part {
+        width: Width::Boolean,
+        fill: 0,
+    }; 16];
     let mut place: usize = 0;
-    let mut i: usize = 0;
-    while i < count {
+    for i in 0..count {
         let level = Level {
             row,
             done: i,
             at: 0,
         };
-        let width = flat_width(rows, next_part(rows, members, level));
-        if 8 < width {
-            return no_plan();
-        }
-        let stop = place + width_size(width);
+        let width = flat_width(rows, next_part(rows, members, level))?;
+        let stop = place + width.bytes() as usize;
         let next = next_place(rows, members, alignments, level, stop);
-        let fill = gap(stop, next);
+        let fill = next.saturating_sub(stop);
         if 8 < fill {
-            return no_plan();
+            return None;
         }
-        widths[i] = width;
-        fills[i] = fill as u32;
+        parts[i] = Part {
+            width,
+            fill: fill as u32,
+        };
         place = next;
-        i += 1;
     }
-    Plan {
-        count,
-        widths,
-        fills,
-    }
-}
-
-fn no_plan() -> Plan
-    ensures { result ≡ plan_as [] }
-{
-    Plan {
-        count: 0,
-        widths: [0; 16],
-        fills: [0; 16],
-    }
+    Some(Plan { parts, count })
 }
 
 // The plan of a row's value.
-pub fn plan_of(rows: &[u32], members: &[u32], alignments: &[u32; 256], row: usize) -> Plan
-    ensures { result ≡ plan_as (plan_of rows.now members.now alignments.now row) }
+pub fn plan_of(rows: &[u32], members: &[u32], alignments: &[u32; 256], row: usize) -> Option<Plan>
+    ensures { result ≡ plan_of rows.now members.now alignments.now row }
 {
     if 256 <= row {
-        return no_plan();
+        return None;
     }
     let kind = table::kind_at(rows, row);
     if kind == 1 {
-        return Plan {
+        return Some(Plan {
+            parts: [Part {
+                width: Width::Boolean,
+                fill: 0,
+            }; 16],
             count: 1,
-            widths: [0; 16],
-            fills: [0; 16],
-        };
+        });
     }
     let count = table::b_at(rows, row) as usize;
-    if (kind == 7) & (count <= 16) {
+    if (kind == 7) & (0 < count) & (count <= 16) {
         return flat_members(rows, members, alignments, row, count);
     }
-    no_plan()
+    None
 }

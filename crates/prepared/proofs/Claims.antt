@@ -1,9 +1,10 @@
 -- W-207's claims: what an operation gives agrees with its lists, and a check with such a state answers as without one.
 -- Assumes nothing.
-use mathlib.Core.Bool.{Bool, true, false}
+use mathlib.Core.Bool.{Bool, true, ◌&&◌}
 use mathlib.Core.Path.{◌≡◌, refl}
 use Prim.Native.Nat.{ℕ}
 use native.Mathlib.Omega.{arith}
+use Rattle.std.proofs.lemmas.Grind.{common_steps}
 use Rattle.rules.specs.declared.Fault.{Fault}
 use Rattle.rules.specs.declared.Place.TheVariants.{Row, Amount}
 use Rattle.rules.specs.Refusals.{table_not_sound, state_disagrees, fault, Answer, accepted, refused, require, and_then}
@@ -13,11 +14,12 @@ use Rattle.rules.specs.Decode.{Message}
 use Rattle.rules.specs.Answers.{judged, check}
 use Rattle.layout.specs.Answers.{kept_sizes, kept_alignments}
 use Rattle.layout.proofs.Keeping.{kept_size, kept_alignment, zeros_kept, zeros_first}
+use Rattle.prepared.specs.declared.Counts.{Counts}
 use Rattle.prepared.specs.declared.State.{State}
-use Rattle.prepared.specs.States.{start, state_of, prepared_of, empty_lists, Agrees, agrees, check_prepared}
-use Rattle.prepared.specs.Operations.{Counts, counts_of, cut_to, appended, counts_within, went_back}
+use Rattle.prepared.specs.States.{start, counts_in, prepared_of, empty_lists, Agrees, agrees, check_prepared}
+use Rattle.prepared.specs.Operations.{cut_to, appended, counts_within, went_back}
 use Rattle.prepared.specs.Claims.{StoresAgree, GivesStateOf, Claims}
-use Rattle.prepared.proofs.States.{empty, sound_some, Agreed, no_table, whole_table, agreed, agrees_itself}
+use Rattle.prepared.proofs.States.{empty, sound_some, prepared_said, Agreed, no_table, whole_table, agreed, agrees_itself}
 
 no_stores : (t : TypeTable) → empty_lists t ≡ true → StoresAgree start t
 no_stores t e =
@@ -49,32 +51,27 @@ stores_agree s t e = stores_case s t (agreed s t e)
 start_gives : (t : TypeTable) → empty_lists t ≡ true → Agrees start t × StoresAgree start t
 start_gives t e = let agreement : Agrees start t = rw e in (agreement, stores_agree start t agreement)
 
-sound_case : (t : TypeTable) (s : State) (a : Answer (Unit {0})) → soundness t ≡ a → and_then a (λ sound. accepted (state_of t)) ≡ accepted s → soundness t ≡ accepted tt
-sound_case t s (accepted tt) e given = e
-sound_case t s (refused f) e given = let z : ◌≡◌ {A = Answer State} (refused f) (accepted s) = given in cc
-
 prepare_gives : (t : TypeTable) → GivesStateOf t (prepared_of t)
 prepare_gives t s e =
-    let sound = sound_case t s (soundness t) refl e in
+    let sound = (prepared_said t e).0 in
     let agreement : Agrees s t = rw (sound_some t sound) e in
     (agreement, stores_agree s t agreement)
 
-require_case : (test : Bool) (f : Fault) (a : Answer State) (s : State) → require test f a ≡ accepted s → a ≡ accepted s
-require_case true f a s e = e
-require_case false f a s e = let z : ◌≡◌ {A = Answer State} (refused f) (accepted s) = e in cc
+-- What was prepared, where a test on the way passed, and one before.
+passed : (p : Answer State) (test : Bool) (f : Fault) (s : State) → and_then p (λ new. require test f (accepted new)) ≡ accepted s → p ≡ accepted s
+passed p test f s e = grind (arith, common_steps)
 
-agreement_case : (p : Answer State) (test : Bool) (f : Fault) (s : State) → and_then p (λ new. require test f (accepted new)) ≡ accepted s → p ≡ accepted s
-agreement_case (accepted u) test f s e = require_case test f (accepted u) s e
-agreement_case (refused g) test f s e = let z : ◌≡◌ {A = Answer State} (refused g) (accepted s) = e in cc
+passed_before : (before : Bool) (g : Fault) (p : Answer State) (s : State) → require before g p ≡ accepted s → p ≡ accepted s
+passed_before before g p s e = grind (arith, common_steps)
 
 append_gives : (s : State) (t : TypeTable) → GivesStateOf t (appended s t)
-append_gives s t u e = prepare_gives t u (agreement_case (prepared_of t) (agrees s (cut_to (counts_of s) t)) (fault state_disagrees (Amount 0)) u e)
+append_gives s t u e = prepare_gives t u (passed (prepared_of t) (agrees s (cut_to s.counts t)) (fault state_disagrees (Amount 0)) u e)
 
 back_gives : (s : State) (t : TypeTable) (n : Counts) → GivesStateOf (cut_to n t) (went_back s t n)
 back_gives s t n u e =
     prepare_gives (cut_to n t) u
-    (agreement_case (prepared_of (cut_to n t)) (agrees s (cut_to (counts_of s) t)) (fault state_disagrees (Amount 0)) u
-    (require_case (counts_within n s t) (fault table_not_sound (Row 256)) _ u e))
+    (passed (prepared_of (cut_to n t)) (agrees s (cut_to s.counts t)) (fault state_disagrees (Amount 0)) u
+    (passed_before (counts_within n s.counts && counts_within n (counts_in t)) (fault table_not_sound (Row 256)) _ u e))
 
 -- Where the lists are not sound, both checks say so.
 check_case : (s : State) (m : Message) (root : ℕ) (a : Answer (Unit {0})) → soundness m.table ≡ a → agrees s m.table ≡ true

@@ -1,16 +1,16 @@
 -- Lists that go on past others: what the shorter lists say of their sound rows, the longer ones say too.
 -- Assumes nothing.
 use Rattle.std.specs.Prelude.{if◌then◌else◌}
-use mathlib.Core.Bool.{Bool, true, false, ◌&&◌}
+use mathlib.Core.Bool.{true, ◌&&◌}
 use mathlib.Core.List.{List}
 use mathlib.Core.Path.{◌≡◌, refl, ap, sym, ◌∙◌, fun_ext}
-use Prim.Native.Nat.{ℕ, zero, suc, ◌+◌, ◌*◌, ◌≤◌, ◌<◌, min}
-use native.Mathlib.Nat.{min-le_left, min-le_right, min-eq_left, min-eq_right, le_of_lt}
+use Prim.Native.Nat.{ℕ, zero, suc, ◌+◌, ◌*◌, ◌≤◌, ◌<◌}
+use native.Mathlib.Nat.{min-le_left, min-le_right}
 use native.Mathlib.Omega.{arith}
 use lib.Dec.{eqb, leb, ltb}
 use lib.ListN.{length, take, get_or, length-take}
-use lib.Seq.{get_or-take, take_all, take-length}
-use borrow.Author.Tests.{leb-true, leb-false, ltb-true, le-leb, lt-ltb}
+use lib.Seq.{get_or-take}
+use borrow.Author.Tests.{leb-true, ltb-true, le-leb, lt-ltb}
 use Rattle.rules.specs.declared.Layout.{Layout}
 use Rattle.rules.specs.TypeTable.{TypeTable, row_count, member_count, kind_at, a_at, b_at, c_at, ordinal_at, row_of, entry_at, FidlType, bool, number, handle, array, vector, string, struct, box, table, union, strict_enum, strict_bits, none, type_of, member_rows, below, envelope_size}
 use Rattle.rules.specs.Sizes.{layout, layout_as, layout_step, layout_below, layout_of, size_of}
@@ -18,7 +18,8 @@ use Rattle.rules.specs.Sound.{struct_members, rising_members, rising_entries, me
 use Rattle.rules.proofs.Tests.{both}
 use Rattle.layout.specs.Kept.{SoundBelow, KeptBelow}
 use Rattle.layout.proofs.Rows.{sound_fits, struct_fits}
-use Rattle.prepared.specs.Operations.{Counts, cut_to}
+use Rattle.prepared.specs.declared.Counts.{Counts}
+use Rattle.prepared.specs.Operations.{cut_to}
 
 pub record Extends (t u : TypeTable) : Type 0 where
   pub edition : t.edition ≡ u.edition
@@ -36,14 +37,6 @@ take_short n l = rw (length-take n l) (min-le_left n (length l), min-le_right n 
 
 take_get : (n : ℕ) (l : List ℕ) (i : ℕ) → i < length (take n l) → get_or (take n l) i 0 ≡ get_or l i 0
 take_get n l i h = get_or-take n l i 0 (omega (arith, (take_short n l).0))
-
-min_case : (n : ℕ) (l : List ℕ) (short : Bool) → leb n (length l) ≡ short → take (min n (length l)) l ≡ take n l
-min_case n l true e = rw (min-eq_left (leb-true n (length l) e))
-min_case n l false e = let past = le_of_lt (leb-false n (length l) e) in rw (min-eq_right past) (take-length l ∙ sym (take_all n l past))
-
--- A list cut at its end is the list.
-pub take_min : (n : ℕ) (l : List ℕ) → take (min n (length l)) l ≡ take n l
-take_min n l = min_case n l (leb n (length l)) refl
 
 pub cut_extends : (n : Counts) (t : TypeTable) → Extends (cut_to n t) t
 cut_extends n t =

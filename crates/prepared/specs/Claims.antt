@@ -5,17 +5,18 @@ use Rattle.rules.specs.TypeTable.{TypeTable, row_count}
 use Rattle.rules.specs.Sizes.{layout_of, size_of}
 use Rattle.rules.specs.Decode.{Message}
 use Rattle.rules.specs.Answers.{check}
+use Rattle.prepared.specs.declared.Counts.{Counts}
 use Rattle.prepared.specs.declared.State.{State}
 use Rattle.prepared.specs.States.{start, prepared_of, empty_lists, Agrees, check_prepared}
-use Rattle.prepared.specs.Operations.{Counts, cut_to, appended, went_back}
+use Rattle.prepared.specs.Operations.{cut_to, appended, went_back}
 
 -- "the stores agree with document 01's sizes (not W-205's) for exactly the rows in use", and hold zero past them
 pub record StoresAgree (s : State) (t : TypeTable) : Type 0 where
-  pub in_use : s.rows ≡ row_count t
-  pub size : (row : ℕ) → row < s.rows → get_or s.sizes row 0 ≡ size_of t row
-  pub alignment : (row : ℕ) → row < s.rows → get_or s.alignments row 0 ≡ (layout_of t row).alignment
-  pub no_size : (row : ℕ) → s.rows ≤ row → get_or s.sizes row 0 ≡ 0
-  pub no_alignment : (row : ℕ) → s.rows ≤ row → get_or s.alignments row 0 ≡ 0
+  pub in_use : s.counts.rows ≡ row_count t
+  pub size : (row : ℕ) → row < s.counts.rows → get_or s.sizes row 0 ≡ size_of t row
+  pub alignment : (row : ℕ) → row < s.counts.rows → get_or s.alignments row 0 ≡ (layout_of t row).alignment
+  pub no_size : (row : ℕ) → s.counts.rows ≤ row → get_or s.sizes row 0 ≡ 0
+  pub no_alignment : (row : ℕ) → s.counts.rows ≤ row → get_or s.alignments row 0 ≡ 0
 
 -- "After each one": the state that an operation gives is that of its lists.
 abbrev pub GivesStateOf : TypeTable → Answer State → Type 0

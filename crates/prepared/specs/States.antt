@@ -1,6 +1,7 @@
 -- A prepared state beside the lists of a type table, and when the two agree: W-207.
 -- Assumes nothing.
-use Rattle.std.specs.Prelude.{Bool, true, false, ◌&&◌, List, [], ◌∷◌, ◌≡◌, ℕ, eqb, length, replicate, if◌then◌else◌}
+use Rattle.std.specs.Prelude.{Bool, false, ◌&&◌, ◌≡◌, ℕ, eqb, nat_eq, length, replicate, if◌then◌else◌}
+use Rattle.std.specs.Cmp.Lexicographic.{pointwise}
 use Rattle.rules.specs.declared.Place.TheVariants.{Amount}
 use Rattle.rules.specs.Refusals.{state_disagrees, fault, Answer, accepted, refused, require, and_then}
 use Rattle.rules.specs.TypeTable.{TypeTable, row_count, member_count}
@@ -8,16 +9,20 @@ use Rattle.rules.specs.Sound.{soundness}
 use Rattle.rules.specs.Decode.{Message}
 use Rattle.rules.specs.Answers.{check}
 use Rattle.layout.specs.Answers.{kept_sizes, kept_alignments}
+use Rattle.prepared.specs.declared.Counts.{Counts}
 use Rattle.prepared.specs.declared.State.{State}
 
 -- "two stores of 256 numbers, all zero at the start"
 abbrev pub start : State
-start = record { sizes = replicate 256 0; alignments = replicate 256 0; rows = 0; members = 0; entries = 0 }
+start = record { counts = record { rows = 0; members = 0; entries = 0 }; sizes = replicate 256 0; alignments = replicate 256 0 }
+
+-- How many rows, members and entries lists hold.
+abbrev pub counts_in : TypeTable → Counts
+counts_in t = record { rows = row_count t; members = member_count t; entries = length t.entries }
 
 -- The stores "hold size and alignment for each row in use and zero for the others".
 abbrev pub state_of : TypeTable → State
-state_of t =
-    record { sizes = kept_sizes t; alignments = kept_alignments t; rows = row_count t; members = member_count t; entries = length t.entries }
+state_of t = record { counts = counts_in t; sizes = kept_sizes t; alignments = kept_alignments t }
 
 -- "prepare a whole table": 1, or its state.
 abbrev pub prepared_of : TypeTable → Answer State
@@ -34,16 +39,11 @@ abbrev pub Agrees : State → TypeTable → Type 0
 Agrees s t = agreeing_state t ≡ accepted s
 
 -- The same as a test: the states are compared number by number.
-unfoldable pub same_numbers : List ℕ → List ℕ → Bool
-same_numbers [] [] = true
-same_numbers [] (b ∷ others) = false
-same_numbers (a ∷ rest) [] = false
-same_numbers (a ∷ rest) (b ∷ others) = eqb a b && same_numbers rest others
+abbrev pub same_counts : Counts → Counts → Bool
+same_counts n m = nat_eq n.rows m.rows && (nat_eq n.members m.members && nat_eq n.entries m.entries)
 
 abbrev pub same_state : State → State → Bool
-same_state s u =
-    eqb s.rows u.rows && eqb s.members u.members && eqb s.entries u.entries
-    && same_numbers s.sizes u.sizes && same_numbers s.alignments u.alignments
+same_state s u = same_counts s.counts u.counts && (pointwise nat_eq s.sizes u.sizes && pointwise nat_eq s.alignments u.alignments)
 
 abbrev pub is_state : State → Answer State → Bool
 is_state s (accepted u) = same_state s u

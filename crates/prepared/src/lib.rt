@@ -2,158 +2,140 @@
 // operation to the next.
 #![tactic(auto)]
 
-mod compare;
-
-ghost use Rattle.std.specs.Prelude.{◌≡◌, ◌*◌, ◌≤◌, min};
-ghost use Rattle.rules.specs.Refusals.{state_disagrees, fault, refused};
+ghost use Rattle.std.specs.Prelude.{◌≡◌};
+ghost use Rattle.rules.specs.Refusals.{state_disagrees, fault, accepted, require};
 ghost use Rattle.rules.specs.TypeTable.{type_table};
-ghost use Rattle.rules.specs.Answers.{numbers_of, nothing};
-ghost use Rattle.layout.specs.Answers.{verdict_of, verdict_numbers};
-ghost use Rattle.prepared.specs.States.{start, prepared_of, agreement};
-ghost use Rattle.prepared.specs.Operations.{counts, appended, went_back, answered, cut_state, no_numbers};
+ghost use Rattle.rules.specs.Answers.{numbers_of, nothing, answer_of, result_numbers};
+ghost use Rattle.rules.specs.declared.Place.TheVariants.{Amount};
+ghost use Rattle.prepared.specs.States.{start, counts_in, prepared_of, same_state, agreement};
+ghost use Rattle.prepared.specs.Operations.{cut_to, appended, counts_within, went_back, cut_state, no_numbers};
 
-use compare::same_state;
-use layout::Soundness;
 use layout::climb::{climb, climb_from};
-use rules::{Fault, Place};
+use rules::{Fault, Place, Refusal};
 
-// "Two stores of 256 numbers", the size and the alignment of each row in use and zero for the others; and how many rows,
-// members and entries are in use.
-#[derive(Clone, Copy)]
-pub struct State {
-    pub sizes: [u32; 256],
-    pub alignments: [u32; 256],
+// How many rows, members and entries lists hold, are in use, or are gone back to.
+#[derive(Clone, Copy, PartialEq, Eq)]
+pub struct Counts {
     pub rows: usize,
     pub members: usize,
     pub entries: usize,
 }
 
-// What an operation answers: the verdict (1, 34), and the state afterwards, on a refusal as it was.
-#[derive(Clone, Copy)]
-pub struct Prepared {
-    pub verdict: Soundness,
-    pub state: State,
-}
+impl Counts {
+    // Of whole lists.
+    fn of(rows: &[u32], members: &[u32], entries: &[u64]) -> Counts
+        ensures { result ≡ counts_in (type_table rows.now members.now entries.now) }
+    {
+        Counts {
+            rows: rows.len() / 4,
+            members: members.len() / 2,
+            entries: entries.len(),
+        }
+    }
 
-// An operation refused: the state stays.
-fn refusal(fault: Fault, state: State) -> Prepared
-    ensures { result ≡ answered (refused fault) state }
-{
-    Prepared {
-        verdict: Soundness::Refused(fault),
-        state,
+    // None of them is above those of `most`.
+    fn within(self, most: Counts) -> bool
+        ensures { result ≡ counts_within self most }
+    {
+        self.rows <= most.rows && self.members <= most.members && self.entries <= most.entries
     }
 }
 
-// 34, place 0.
-fn disagreement() -> Fault
-    ensures { result ≡ fault state_disagrees (Place.Amount 0) }
-{
-    Fault {
-        number: 34,
-        place: Place::Amount(0),
-    }
+// "Two stores of 256 numbers", the size and the alignment of each row in use and zero for the others; and how many rows,
+// members and entries are in use. The counts come first, so that `==` looks at them first.
+#[derive(Clone, Copy, PartialEq, Eq)]
+pub struct State {
+    pub counts: Counts,
+    pub sizes: [u32; 256],
+    pub alignments: [u32; 256],
 }
 
-// Where a list is cut that keeps so many rows, members or entries of so many numbers each.
-fn cut_at(count: usize, each: usize, length: usize) -> usize
-    requires { 1 ≤ each }
-    ensures { result ≡ min (count * each) length }
+// Prepares lists cut to counts: each ends there, or where it ends by itself.
+fn prepare_cut(to: Counts, rows: &[u32], members: &[u32], entries: &[u64]) -> Result<State, Fault>
+    ensures { answer_of result ≡ prepared_of (cut_to to (type_table rows.now members.now entries.now)) }
 {
-    if count <= length / each {
-        count * each
-    } else {
-        length
-    }
-}
-
-// What preparing the lists cut to a state's counts gives: the start state on a refusal.
-fn cut_state(state: State, rows: &[u32], members: &[u32], entries: &[u64]) -> State
-    ensures { result ≡ cut_state state (type_table rows.now members.now entries.now) }
-{
-    let rows_end = cut_at(state.rows, 4, rows.len());
-    let members_end = cut_at(state.members, 2, members.len());
-    let entries_end = cut_at(state.entries, 1, entries.len());
-    let cut = State::prepare(
+    let rows_end = to.rows.saturating_mul(4).min(rows.len());
+    let members_end = to.members.saturating_mul(2).min(members.len());
+    let entries_end = to.entries.min(entries.len());
+    State::prepare(
         &rows[..rows_end],
         &members[..members_end],
         &entries[..entries_end],
-    );
-    cut.state
+    )
 }
 
+// An operation gives the new state. On a refusal the caller's own is as it was.
 impl State {
     // "All zero at the start."
     pub fn start() -> State
         ensures { result ≡ start }
     {
-        let zeros = [0u32; 256];
         State {
-            sizes: zeros,
-            alignments: zeros,
-            rows: 0,
-            members: 0,
-            entries: 0,
+            counts: Counts {
+                rows: 0,
+                members: 0,
+                entries: 0,
+            },
+            sizes: [0; 256],
+            alignments: [0; 256],
         }
     }
 
-    // Prepares a whole table: 1, with the start state.
-    pub fn prepare(rows: &[u32], members: &[u32], entries: &[u64]) -> Prepared
-        ensures answer { result ≡ answered (prepared_of (type_table rows.now members.now entries.now)) start }
-        ensures numbers { verdict_numbers result.verdict ≡ numbers_of 0 no_numbers (prepared_of (type_table rows.now members.now entries.now)) }
+    // Prepares a whole table: 1, or its state.
+    pub fn prepare(rows: &[u32], members: &[u32], entries: &[u64]) -> Result<State, Fault>
+        ensures answer { answer_of result ≡ prepared_of (type_table rows.now members.now entries.now) }
+        ensures numbers { result_numbers 0 no_numbers result ≡ numbers_of 0 no_numbers (prepared_of (type_table rows.now members.now entries.now)) }
     {
-        let mut sizes = [0u32; 256];
-        let mut alignments = [0u32; 256];
-        let verdict = climb(rows, members, entries, &mut sizes, &mut alignments);
-        if let Soundness::Refused(fault) = verdict {
-            return refusal(fault, State::start());
-        }
-        Prepared {
-            verdict: Soundness::Sound,
-            state: State {
-                sizes,
-                alignments,
-                rows: rows.len() / 4,
-                members: members.len() / 2,
-                entries: entries.len(),
-            },
+        let mut state = State::start();
+        climb(
+            rows,
+            members,
+            entries,
+            &mut state.sizes,
+            &mut state.alignments,
+        )?;
+        state.counts = Counts::of(rows, members, entries);
+        Ok(state)
+    }
+
+    // What preparing the lists cut to this state's counts gives: the start state on a refusal.
+    fn cut(&self, rows: &[u32], members: &[u32], entries: &[u64]) -> State
+        ensures { result ≡ cut_state self.now (type_table rows.now members.now entries.now) }
+    {
+        prepare_cut(self.counts, rows, members, entries).unwrap_or(State::start())
+    }
+
+    // 34, place 0, unless the states are the same.
+    fn require_same(&self, other: &State) -> Result<(), Fault>
+        ensures { answer_of result ≡ require (same_state self.now other.now) (fault state_disagrees (Amount 0)) (accepted (tt {0})) }
+    {
+        if self == other {
+            Ok(())
+        } else {
+            Err(Refusal::StateDisagrees.at(Place::Amount(0)))
         }
     }
 
     // Appends what the lists hold past this state's counts: 1 of the whole lists, then 34. The rows in use are laid out once,
     // to hold this state against them, and the climb goes on from there: each row is worked out once.
-    pub fn append(self, rows: &[u32], members: &[u32], entries: &[u64]) -> Prepared
-        ensures answer { result ≡ answered (appended self (type_table rows.now members.now entries.now)) self }
-        ensures numbers { verdict_numbers result.verdict ≡ numbers_of 0 no_numbers (appended self (type_table rows.now members.now entries.now)) }
+    pub fn append(self, rows: &[u32], members: &[u32], entries: &[u64]) -> Result<State, Fault>
+        ensures answer { answer_of result ≡ appended self (type_table rows.now members.now entries.now) }
+        ensures numbers { result_numbers 0 no_numbers result ≡ numbers_of 0 no_numbers (appended self (type_table rows.now members.now entries.now)) }
     {
-        let used = cut_state(self, rows, members, entries);
-        let mut sizes = used.sizes;
-        let mut alignments = used.alignments;
-        let first = used.rows;
-        let verdict = climb_from(
+        let used = self.cut(rows, members, entries);
+        let first = used.counts.rows as u32;
+        let mut state = used;
+        climb_from(
             rows,
             members,
             entries,
-            first as u32,
-            &mut sizes,
-            &mut alignments,
-        );
-        if let Soundness::Refused(fault) = verdict {
-            return refusal(fault, self);
-        }
-        if !same_state(self, used) {
-            return refusal(disagreement(), self);
-        }
-        Prepared {
-            verdict: Soundness::Sound,
-            state: State {
-                sizes,
-                alignments,
-                rows: rows.len() / 4,
-                members: members.len() / 2,
-                entries: entries.len(),
-            },
-        }
+            first,
+            &mut state.sizes,
+            &mut state.alignments,
+        )?;
+        self.require_same(&used)?;
+        state.counts = Counts::of(rows, members, entries);
+        Ok(state)
     }
 
     // Goes back to earlier counts: 1 at 256 for a count above this state's or the lists', 1 of the lists cut to the counts,
@@ -163,59 +145,24 @@ impl State {
         rows: &[u32],
         members: &[u32],
         entries: &[u64],
-        to_rows: usize,
-        to_members: usize,
-        to_entries: usize,
-    ) -> Prepared
-        ensures answer { result ≡ answered (went_back self (type_table rows.now members.now entries.now) (counts to_rows to_members to_entries)) self }
-        ensures numbers { verdict_numbers result.verdict ≡ numbers_of 0 no_numbers (went_back self (type_table rows.now members.now entries.now) (counts to_rows to_members to_entries)) }
+        to: Counts,
+    ) -> Result<State, Fault>
+        ensures answer { answer_of result ≡ went_back self (type_table rows.now members.now entries.now) to }
+        ensures numbers { result_numbers 0 no_numbers result ≡ numbers_of 0 no_numbers (went_back self (type_table rows.now members.now entries.now) to) }
     {
-        let within_state = (to_rows <= self.rows)
-            & (to_members <= self.members)
-            & (to_entries <= self.entries);
-        let within = within_state
-            & (to_rows <= rows.len() / 4)
-            & (to_members <= members.len() / 2)
-            & (to_entries <= entries.len());
-        if !within {
-            return refusal(
-                Fault {
-                    number: 1,
-                    place: Place::Row(256),
-                },
-                self,
-            );
+        if !to.within(self.counts) || !to.within(Counts::of(rows, members, entries)) {
+            return Err(Refusal::TableNotSound.at(Place::Row(256)));
         }
-        let back = State::prepare(
-            &rows[..to_rows * 4],
-            &members[..to_members * 2],
-            &entries[..to_entries],
-        );
-        let verdict = back.verdict;
-        if let Soundness::Refused(fault) = verdict {
-            return refusal(fault, self);
-        }
-        if same_state(self, cut_state(self, rows, members, entries)) {
-            back
-        } else {
-            refusal(disagreement(), self)
-        }
+        let back = prepare_cut(to, rows, members, entries)?;
+        self.require_same(&self.cut(rows, members, entries))?;
+        Ok(back)
     }
 
     // What a check asks of this state: 1 of the lists, then 34 where preparing them does not give it.
-    pub fn agreement(self, rows: &[u32], members: &[u32], entries: &[u64]) -> Soundness
-        ensures answer { verdict_of result ≡ agreement self (type_table rows.now members.now entries.now) }
-        ensures numbers { verdict_numbers result ≡ numbers_of 0 nothing (agreement self (type_table rows.now members.now entries.now)) }
+    pub fn agreement(self, rows: &[u32], members: &[u32], entries: &[u64]) -> Result<(), Fault>
+        ensures answer { answer_of result ≡ agreement self (type_table rows.now members.now entries.now) }
+        ensures numbers { result_numbers 0 nothing result ≡ numbers_of 0 nothing (agreement self (type_table rows.now members.now entries.now)) }
     {
-        let whole = State::prepare(rows, members, entries);
-        let verdict = whole.verdict;
-        if let Soundness::Refused(fault) = verdict {
-            return Soundness::Refused(fault);
-        }
-        if same_state(self, whole.state) {
-            Soundness::Sound
-        } else {
-            Soundness::Refused(disagreement())
-        }
+        self.require_same(&State::prepare(rows, members, entries)?)
     }
 }

@@ -10,9 +10,6 @@ use Rattle.rules.specs.Header.{Header}
 abbrev pub told : {A : Type 0} (count : ℕ) (results : A → List ℕ) → Answer A → List ℕ
 told count results answer = let numbers = numbers_of count results answer in numbers.place ∷ numbers.values
 
-abbrev pub one : ℕ → List ℕ
-one n = n ∷ []
-
 -- A header from its fields.
 abbrev pub header : (transaction flag0 flag1 flag2 ordinal : ℕ) → Header
 header transaction flag0 flag1 flag2 ordinal = record { transaction = transaction; flag0 = flag0; flag1 = flag1; flag2 = flag2; ordinal = ordinal }

@@ -1,41 +1,87 @@
 // Ratlinery for C, C++ and Rust: include/ratlinery.h says what each function does. Each returns the number of the refusal, 0
 // when accepted, and stores the place and its results into `answer`, as far as that has room.
-#![tactic(auto)]
+#![tactic(auto, using(crate::proofs::Telling::answer_told))]
 
-ghost use Rattle.std.specs.Prelude.{◌≡◌, [], ◌∷◌, ◌≤◌, length};
+ghost use Rattle.std.specs.Prelude.{◌≡◌, ◌∷◌, length};
 ghost use Rattle.std.proofs.lemmas.List.Edits.{sets};
-ghost use Rattle.rules.specs.Refusals.{number, place_number, lent_after};
-ghost use Rattle.rules.specs.Bytes.{zeros};
+ghost use Rattle.rules.specs.Refusals.{number, lent_after};
 ghost use Rattle.rules.specs.TypeTable.{type_table};
 ghost use Rattle.rules.specs.Answers as Rules;
-ghost use Rattle.rules.specs.Answers.{nothing, laid, counted, both_counted, sized};
+ghost use Rattle.rules.specs.Answers.{nothing, laid, counted, both_counted, sized, answer_of};
 ghost use Rattle.rules.specs.Header as Headers;
 ghost use Rattle.walk_leaves.specs.Doing as Doing;
-ghost use Rattle.reader.specs.Answers.{given_of, values_in, objects_in};
-ghost use Rattle.header.specs.Meaning.{written_of};
-ghost use Rattle.ratlinery.specs.Face.{told, one, header, headed, pattern64};
+ghost use Rattle.reader.specs.Answers.{one, both, values_in, objects_in};
+ghost use Rattle.header.specs.Meaning.{header_of};
+ghost use Rattle.writer.specs.Answers as Writer;
+ghost use Rattle.ratlinery.specs.Face.{told, header, headed, pattern64};
 
-use header::{Header, HeaderAnswer, HeaderWritten};
-use layout::LayoutAnswer;
-use reader::{Given, Reading, Verdict};
-use rules::Fault;
-use text::Text;
-use writer::Written;
+use header::{Header, Received};
+use reader::Lengths;
+use rules::{Fault, Layout, Place, Refusal};
+use writer::Sizes;
 
-// A refusal: its place, and so many results of 0.
-fn refused(f: Fault, results: usize, answer: &mut [u64]) -> u32
-    requires { results ≤ 8 }
-    ensures number { result ≡ f.number }
-    ensures answer { answer.new ≡ sets answer.old 0 (place_number f.place ∷ zeros results) }
+// The place, then the results, as far as there is room.
+fn store(place: u64, results: &[u64], answer: &mut [u64])
+    ensures { answer.new ≡ sets answer.old 0 (place ∷ results.now) }
 {
-    words::put_value(answer, 0, rules::place_number(f));
-    let mut i = 0;
-    while i < results {
-        words::put_value(answer, i + 1, 0);
-        i += 1;
+    words::put_item(answer, 0, place);
+    for (i, result) in results.iter().enumerate() {
+        words::put_item(answer, i + 1, *result);
     }
-    f.number
 }
+
+// What is told of an outcome: the number is returned; the place and the results are stored, as far as there is room. On a
+// refusal the results are 0.
+fn told<const N: usize>(outcome: Result<[u64; N], Fault>, answer: &mut [u64]) -> u32
+    ensures number { result ≡ number (answer_of outcome.entry) }
+    ensures answer { answer.new ≡ sets answer.old 0 (told N (λ results. results) (answer_of outcome.entry)) }
+{
+    match outcome {
+        Ok(results) => {
+            store(0, &results, answer);
+            0
+        }
+        Err(f) => {
+            store(rules::place_number(f), &[0; N], answer);
+            f.number
+        }
+    }
+}
+
+// ---- the results that are told
+
+fn laid(l: Layout) -> [u64; 2]
+    ensures { result ≡ laid l }
+{
+    [l.size as u64, l.alignment as u64]
+}
+
+fn counted(count: usize) -> [u64; 1]
+    ensures { result ≡ one count }
+{
+    [count as u64]
+}
+
+fn both_counted(lengths: Lengths) -> [u64; 2]
+    ensures { result ≡ both lengths }
+{
+    [lengths.values as u64, lengths.objects as u64]
+}
+
+fn sized(sizes: Sizes) -> [u64; 2]
+    ensures { result ≡ Writer.told sizes }
+{
+    [sizes.bytes as u64, sizes.handles as u64]
+}
+
+// A signed number as the pattern of 64 bits that C is told.
+fn extended(number: i32) -> u64
+    ensures { result ≡ pattern64 number }
+{
+    i64::from(number).cast_unsigned()
+}
+
+// ---- the functions for C
 
 #[unsafe(no_mangle)]
 pub extern "C" fn ratlinery_layout(
@@ -48,15 +94,10 @@ pub extern "C" fn ratlinery_layout(
     ensures number { result ≡ number (Rules.layout_answer (type_table rows.now members.now entries.now) row) }
     ensures answer { answer.new ≡ sets answer.old 0 (told 2 laid (Rules.layout_answer (type_table rows.now members.now entries.now) row)) }
 {
-    match layout::layout_of(rows, members, entries, row) {
-        LayoutAnswer::Refused(f) => refused(f, 2, answer),
-        LayoutAnswer::Laid(l) => {
-            words::put_value(answer, 0, 0);
-            words::put_value(answer, 1, l.size as u64);
-            words::put_value(answer, 2, l.alignment as u64);
-            0
-        }
-    }
+    told(
+        layout::layout_of(rows, members, entries, row).map(laid),
+        answer,
+    )
 }
 
 #[unsafe(no_mangle)]
@@ -72,13 +113,10 @@ pub extern "C" fn ratlinery_check(
     ensures number { result ≡ number (Rules.check (Doing.message (type_table rows.now members.now entries.now) message.now handles) root) }
     ensures answer { answer.new ≡ sets answer.old 0 (told 0 nothing (Rules.check (Doing.message (type_table rows.now members.now entries.now) message.now handles) root)) }
 {
-    match reader::check(rows, members, entries, root, message, handles) {
-        Verdict::Refused(f) => refused(f, 0, answer),
-        Verdict::Accepted => {
-            words::put_value(answer, 0, 0);
-            0
-        }
-    }
+    told(
+        reader::check(rows, members, entries, root, message, handles).map(|()| []),
+        answer,
+    )
 }
 
 #[unsafe(no_mangle)]
@@ -98,32 +136,13 @@ pub extern "C" fn ratlinery_read(
     ensures objects { objects.new ≡ lent_after (objects_in (Rules.read (Doing.message (type_table rows.now members.now entries.now) message.now handles) root (length values.old) (length objects.old))) objects.old }
     ensures answer { answer.new ≡ sets answer.old 0 (told 2 both_counted (Rules.read (Doing.message (type_table rows.now members.now entries.now) message.now handles) root (length values.old) (length objects.old))) }
 {
-    match reader::read(
-        rows, members, entries, root, message, handles, values, objects,
-    ) {
-        Reading::Refused(f) => refused(f, 2, answer),
-        Reading::Accepted(lengths) => {
-            words::put_value(answer, 0, 0);
-            words::put_value(answer, 1, lengths.values as u64);
-            words::put_value(answer, 2, lengths.objects as u64);
-            0
-        }
-    }
-}
-
-// What is told of one list that is given.
-fn given(given: Given, answer: &mut [u64]) -> u32
-    ensures number { result ≡ number (given_of given) }
-    ensures answer { answer.new ≡ sets answer.old 0 (told 1 one (given_of given)) }
-{
-    match given {
-        Given::Refused(f) => refused(f, 1, answer),
-        Given::Accepted(count) => {
-            words::put_value(answer, 0, 0);
-            words::put_value(answer, 1, count as u64);
-            0
-        }
-    }
+    told(
+        reader::read(
+            rows, members, entries, root, message, handles, values, objects,
+        )
+        .map(both_counted),
+        answer,
+    )
 }
 
 #[unsafe(no_mangle)]
@@ -141,8 +160,8 @@ pub extern "C" fn ratlinery_read_values(
     ensures values { values.new ≡ lent_after (Rules.read_values (Doing.message (type_table rows.now members.now entries.now) message.now handles) root (length values.old)) values.old }
     ensures answer { answer.new ≡ sets answer.old 0 (told 1 counted (Rules.read_values (Doing.message (type_table rows.now members.now entries.now) message.now handles) root (length values.old))) }
 {
-    given(
-        reader::read_values(rows, members, entries, root, message, handles, values),
+    told(
+        reader::read_values(rows, members, entries, root, message, handles, values).map(counted),
         answer,
     )
 }
@@ -162,8 +181,8 @@ pub extern "C" fn ratlinery_read_objects(
     ensures objects { objects.new ≡ lent_after (Rules.read_objects (Doing.message (type_table rows.now members.now entries.now) message.now handles) root (length objects.old)) objects.old }
     ensures answer { answer.new ≡ sets answer.old 0 (told 1 counted (Rules.read_objects (Doing.message (type_table rows.now members.now entries.now) message.now handles) root (length objects.old))) }
 {
-    given(
-        reader::read_objects(rows, members, entries, root, message, handles, objects),
+    told(
+        reader::read_objects(rows, members, entries, root, message, handles, objects).map(counted),
         answer,
     )
 }
@@ -182,65 +201,32 @@ pub extern "C" fn ratlinery_write(
     ensures out { out.new ≡ Rules.output_after (Rules.write (type_table rows.now members.now entries.now) root values.now (length out.old)) out.old }
     ensures answer { answer.new ≡ sets answer.old 0 (told 2 sized (Rules.write (type_table rows.now members.now entries.now) root values.now (length out.old))) }
 {
-    match writer::write(rows, members, entries, root, values, out) {
-        Written::Refused(f) => refused(f, 2, answer),
-        Written::Accepted(sizes) => {
-            words::put_value(answer, 0, 0);
-            words::put_value(answer, 1, sizes.bytes as u64);
-            words::put_value(answer, 2, sizes.handles as u64);
-            0
-        }
-    }
+    told(
+        writer::write(rows, members, entries, root, values, out).map(sized),
+        answer,
+    )
 }
 
-// A signed number as a pattern of 64 bits.
-fn extended(number: i32) -> u64
-    ensures { result ≡ pattern64 number }
-{
-    let pattern = words::pattern32(number);
-    if pattern < 0x80000000 {
-        return pattern as u64;
-    }
-    0xFFFFFFFF00000000 + pattern as u64
-}
-
+#[tactic(auto, using(crate::proofs::Telling::header_told))]
 #[unsafe(no_mangle)]
 pub extern "C" fn ratlinery_header_read(message: &[u8], answer: &mut [u64]) -> u32
     ensures number { result ≡ number (Headers.read_header message.now) }
     ensures answer { answer.new ≡ sets answer.old 0 (told 6 (headed (length message.now) (Headers.status message.now)) (Headers.read_header message.now)) }
 {
-    match header::read_header(message) {
-        HeaderAnswer::Refused(f) => refused(f, 6, answer),
-        HeaderAnswer::Accepted { header: h, status } => {
-            words::put_value(answer, 0, 0);
-            words::put_value(answer, 1, h.transaction as u64);
-            words::put_value(
-                answer,
-                2,
-                h.flag0 as u64 + h.flag1 as u64 * 256 + h.flag2 as u64 * 65536,
-            );
-            words::put_value(answer, 3, h.ordinal);
-            words::put_value(answer, 4, 16);
-            words::put_value(answer, 5, (message.len() - 16) as u64);
-            words::put_value(answer, 6, extended(status));
-            0
-        }
-    }
-}
-
-// What is told of a header or an epitaph that is written.
-fn written(written: HeaderWritten, answer: &mut [u64]) -> u32
-    ensures number { result ≡ number (written_of written) }
-    ensures answer { answer.new ≡ sets answer.old 0 (told 1 one (written_of written)) }
-{
-    match written {
-        HeaderWritten::Refused(f) => refused(f, 1, answer),
-        HeaderWritten::Bytes(count) => {
-            words::put_value(answer, 0, 0);
-            words::put_value(answer, 1, count as u64);
-            0
-        }
-    }
+    let headed = |r: Received|
+        ensures { result ≡ headed (length message.entry.now) r.status (header_of r.header) }
+    {
+        let [flag0, flag1, flag2] = r.header.flags;
+        [
+            r.header.transaction as u64,
+            flag0 as u64 + flag1 as u64 * 256 + flag2 as u64 * 65536,
+            r.header.ordinal,
+            16,
+            message.len().saturating_sub(16) as u64,
+            extended(r.status),
+        ]
+    };
+    told(header::read_header(message).map(headed), answer)
 }
 
 #[unsafe(no_mangle)]
@@ -259,12 +245,10 @@ pub extern "C" fn ratlinery_header_write(
 {
     let h = Header {
         transaction,
-        flag0,
-        flag1,
-        flag2,
+        flags: [flag0, flag1, flag2],
         ordinal,
     };
-    written(header::write_header(h, out), answer)
+    told(header::write_header(h, out).map(counted), answer)
 }
 
 #[unsafe(no_mangle)]
@@ -280,8 +264,8 @@ pub extern "C" fn ratlinery_epitaph_write(
     ensures out { out.new ≡ lent_after (Headers.write_epitaph flag0 flag1 flag2 status (length out.old)) out.old }
     ensures answer { answer.new ≡ sets answer.old 0 (told 1 counted (Headers.write_epitaph flag0 flag1 flag2 status (length out.old))) }
 {
-    written(
-        header::write_epitaph(flag0, flag1, flag2, status, out),
+    told(
+        header::write_epitaph([flag0, flag1, flag2], status, out).map(counted),
         answer,
     )
 }
@@ -291,14 +275,6 @@ pub extern "C" fn ratlinery_utf8(text: &[u8], answer: &mut [u64]) -> u32
     ensures number { result ≡ number (Rules.text_answer text.now) }
     ensures answer { answer.new ≡ sets answer.old 0 (told 0 nothing (Rules.text_answer text.now)) }
 {
-    match text::judge(text) {
-        Text::Valid => {
-            words::put_value(answer, 0, 0);
-            0
-        }
-        Text::Broken(start) => {
-            words::put_value(answer, 0, start as u64);
-            13
-        }
-    }
+    let judged = text::judge(text).map_err(|start| Refusal::TextNotUtf8.at(Place::Byte(start)));
+    told(judged.map(|()| []), answer)
 }

@@ -1,5 +1,6 @@
 -- A message judged as a whole: every test of the checker.
 -- Assumes nothing.
+use Rattle.std.specs.Prelude.{Err, Ok, Result}
 use mathlib.Core.Path.{◌≡◌, refl, sym, ap, ◌∙◌}
 use mathlib.Core.Bool.{Bool, true, false}
 use mathlib.Core.List.{List}
@@ -16,17 +17,13 @@ use Rattle.rules.specs.Sound.{soundness, root_allowed, require_row}
 use Rattle.rules.specs.Trace.{object_list}
 use Rattle.rules.specs.Decode.{Message, Decoded, went, stopped, trace_of}
 use Rattle.rules.specs.Answers as A
-use Rattle.rules.specs.Answers.{walk, finished, require_length, judged}
+use Rattle.rules.specs.Answers.{walk, finished, require_length, judged, answer_of}
 use Rattle.layout.specs.Answers.{kept_sizes, kept_alignments, given_if_sound}
 use Rattle.layout.proofs.Keeping.{given_sound}
 use Rattle.layout.proofs.Roots.{root_in_use}
-use Rattle.reader.specs.declared.Verdict.{Verdict}
-use Rattle.reader.specs.declared.Verdict.TheVariants as Checked
 use Rattle.reader.specs.declared.Lengths.{Lengths}
-use Rattle.reader.specs.declared.Reading.{Reading}
-use Rattle.reader.specs.declared.Reading.TheVariants.{Accepted, Refused}
 use Rattle.walk_leaves.specs.Doing.{message, values_of}
-use Rattle.reader.specs.Answers.{verdict_of, reading_of, lengths_of}
+use Rattle.reader.specs.Answers.{lengths_of}
 use Rattle.reader.specs.Passing.{lists_of, BeforeWalk, Walkable, Passed, judged_lengths}
 
 -- ---- the tests before the walk
@@ -91,25 +88,25 @@ walkable rows members entries bytes root handles sizes alignments e s a =
 
 -- What the code tested is what the rules test.
 tested_as : (rows members entries bytes : List ℕ) (root handles : ℕ) {sound : Answer (Unit {0})} → sound ≡ soundness (type_table rows members entries)
-    → (r : Verdict) → BeforeWalk sound rows root (length bytes) handles r → verdict_of r ≡ before (message (type_table rows members entries) bytes handles) root
+    → (r : Result (Unit {0}) Fault) → BeforeWalk sound rows root (length bytes) handles r → answer_of r ≡ before (message (type_table rows members entries) bytes handles) root
 tested_as rows members entries bytes root handles e r tested = tested (type_table rows members entries) refl ∙ rw e
 
 module _ (rows members entries bytes : List ℕ) (root handles : ℕ) {sound : Answer (Unit {0})} (s : sound ≡ soundness (type_table rows members entries))
-    {r : Verdict} (tested : BeforeWalk sound rows root (length bytes) handles r) where
-  pub judge_refused : {f : Fault} → r ≡ Checked.Refused f → refused f ≡ judged_lengths (message (type_table rows members entries) bytes handles) root
+    {r : Result (Unit {0}) Fault} (tested : BeforeWalk sound rows root (length bytes) handles r) where
+  pub judge_refused : {f : Fault} → r ≡ Err f → refused f ≡ judged_lengths (message (type_table rows members entries) bytes handles) root
   judge_refused e = rw (judged_before (message (type_table rows members entries) bytes handles) root, ← tested_as rows members entries bytes root handles s r tested, e)
 
-  module _ (e : r ≡ Checked.Accepted) where
+  module _ (e : r ≡ (Ok tt)) where
     pub judge_walkable : (sizes alignments : List ℕ) {sizes' alignments' : List ℕ}
         → sizes' ≡ given_if_sound (type_table rows members entries) (kept_sizes (type_table rows members entries)) sizes
         → alignments' ≡ given_if_sound (type_table rows members entries) (kept_alignments (type_table rows members entries)) alignments
         → Walkable (type_table rows members entries) bytes root handles sizes' alignments'
     judge_walkable sizes alignments =
-        walkable rows members entries bytes root handles sizes alignments (sym (tested_as rows members entries bytes root handles s r tested) ∙ ap verdict_of e)
+        walkable rows members entries bytes root handles sizes alignments (sym (tested_as rows members entries bytes root handles s r tested) ∙ ap answer_of e)
 
-    pub judge_passed : {values values' objects objects' : List ℕ} {reading : Reading}
+    pub judge_passed : {values values' objects objects' : List ℕ} {reading : Result Lengths Fault}
         → Passed (type_table rows members entries) bytes root handles values values' objects objects' reading
-        → reading_of reading ≡ judged_lengths (message (type_table rows members entries) bytes handles) root
+        → answer_of reading ≡ judged_lengths (message (type_table rows members entries) bytes handles) root
     judge_passed p =
         p.answers ∙ rw (judged_before (message (type_table rows members entries) bytes handles) root, ← tested_as rows members entries bytes root handles s r tested, e)
 
@@ -144,15 +141,15 @@ finished_lists m (went n u vs t) {reading} e = go (eqb n (length m.bytes)) (eqb 
 finished_lists m (stopped f vs t) e = absurd (let w : ◌≡◌ {A = ℕ} 0 1 = cc in omega arith)
 
 -- What the answer says of the message.
-pub as_refused : (m : Message) (root : ℕ) (a : Reading) {f : Fault} → reading_of a ≡ judged_lengths m root → a ≡ Refused f → judged m root ≡ refused f
-as_refused m root a {f} e q = go (judged m root) (sym (ap reading_of q) ∙ e)
+pub as_refused : (m : Message) (root : ℕ) (a : Result Lengths Fault) {f : Fault} → answer_of a ≡ judged_lengths m root → a ≡ Err f → judged m root ≡ refused f
+as_refused m root a {f} e q = go (judged m root) (sym (ap answer_of q) ∙ e)
   where
     go : (j : Answer A.Reading) → refused f ≡ lengths_of (lists_of j) → j ≡ refused f
     go (accepted reading) z = absurd (let w : ◌≡◌ {A = ℕ} 0 1 = cc in omega arith)
     go (refused g) z = let y : f ≡ g = cc in rw y
 
-pub as_held : (m : Message) (root : ℕ) (a : Reading) {lengths : Lengths} → reading_of a ≡ judged_lengths m root → a ≡ Accepted lengths → Held m root lengths
-as_held m root a {lengths} e q = go (judged m root) refl (sym (ap reading_of q) ∙ e)
+pub as_held : (m : Message) (root : ℕ) (a : Result Lengths Fault) {lengths : Lengths} → answer_of a ≡ judged_lengths m root → a ≡ Ok lengths → Held m root lengths
+as_held m root a {lengths} e q = go (judged m root) refl (sym (ap answer_of q) ∙ e)
   where
     go : (j : Answer A.Reading) → judged m root ≡ j → accepted lengths ≡ lengths_of (lists_of j) → Held m root lengths
     go (accepted reading) y z = record { reading = reading; held = y; values = cc; objects = cc }
@@ -163,8 +160,8 @@ pub held_lists : {m : Message} {root : ℕ} {lengths : Lengths} (h : Held m root
 held_lists {m} {root} h = finished_lists m (walk m root) (accepted_finished m root h.held).1
 
 -- It may be walked again.
-pub judged_walkable : (rows members entries bytes : List ℕ) (root handles : ℕ) (sizes alignments : List ℕ) {a : Reading} {lengths : Lengths}
-    {sizes' alignments' : List ℕ} → reading_of a ≡ judged_lengths (message (type_table rows members entries) bytes handles) root → a ≡ Accepted lengths
+pub judged_walkable : (rows members entries bytes : List ℕ) (root handles : ℕ) (sizes alignments : List ℕ) {a : Result Lengths Fault} {lengths : Lengths}
+    {sizes' alignments' : List ℕ} → answer_of a ≡ judged_lengths (message (type_table rows members entries) bytes handles) root → a ≡ Ok lengths
     → sizes' ≡ given_if_sound (type_table rows members entries) (kept_sizes (type_table rows members entries)) sizes
     → alignments' ≡ given_if_sound (type_table rows members entries) (kept_alignments (type_table rows members entries)) alignments
     → Walkable (type_table rows members entries) bytes root handles sizes' alignments'

@@ -1,5 +1,6 @@
 -- What the public functions answer, and what they leave in the lists lent: after every test of the checker, 22.
 -- Assumes nothing.
+use Rattle.std.specs.Prelude.{Err, Ok, Result}
 use mathlib.Core.Path.{◌≡◌, refl, ap, ◌∙◌}
 use mathlib.Core.List.{List}
 use Prim.Native.Nat.{ℕ, ◌≤◌, ◌<◌}
@@ -13,54 +14,49 @@ use Rattle.rules.specs.TypeTable.{TypeTable}
 use Rattle.rules.specs.Trace.{object_list}
 use Rattle.rules.specs.Decode.{Message}
 use Rattle.rules.specs.Answers as A
-use Rattle.rules.specs.Answers.{Lists, judged, require_room, numbers_of, nothing, counted, both_counted}
+use Rattle.rules.specs.Answers.{Lists, judged, require_room, numbers_of, nothing, counted, both_counted, answer_of, result_numbers}
 use Rattle.rules.proofs.Rooms.{room_short, room_enough, stored_list}
-use Rattle.reader.specs.declared.Verdict.{Verdict}
-use Rattle.reader.specs.declared.Verdict.TheVariants as Checked
-use Rattle.reader.specs.declared.Given.{Given}
-use Rattle.reader.specs.declared.Given.TheVariants as One
+use Rattle.rules.proofs.Numbers.{result_numbers_lem}
 use Rattle.reader.specs.declared.Lengths.{Lengths}
-use Rattle.reader.specs.declared.Reading.{Reading}
-use Rattle.reader.specs.declared.Reading.TheVariants.{Accepted, Refused}
 use Rattle.walk_leaves.specs.Doing.{message}
-use Rattle.reader.specs.Answers.{verdict_of, verdict_numbers, given_of, given_numbers, reading_of, reading_numbers, length_of, lengths_of, values_in, objects_in}
+use Rattle.reader.specs.Answers.{one, both, length_of, lengths_of, values_in, objects_in}
 use Rattle.reader.specs.Passing.{Passed, judged_lengths}
-use Rattle.reader.proofs.Numbers.{verdict_numbers_lem, given_numbers_lem, reading_numbers_lem}
+use Rattle.reader.proofs.Numbers.{given_numbers, reading_numbers}
 use Rattle.reader.proofs.Judging.{Held, as_refused, as_held, held_lists}
 
 -- ---- a list that is lent
 
 -- One list: what is answered of it, and what it holds after.
-abbrev pub Gives : (given : Answer (List ℕ)) (lent : List ℕ) → Given → (after : List ℕ) → Type 0
-Gives given lent r after = record { answer : given_of r ≡ length_of given; list : after ≡ lent_after given lent; numbers : given_numbers r ≡ numbers_of 1 counted given }
+abbrev pub Gives : (given : Answer (List ℕ)) (lent : List ℕ) → Result ℕ Fault → (after : List ℕ) → Type 0
+Gives given lent r after = record { answer : answer_of r ≡ length_of given; list : after ≡ lent_after given lent; numbers : result_numbers 1 one r ≡ numbers_of 1 counted given }
 
-gives : (given : Answer (List ℕ)) (lent : List ℕ) (r : Given) {after : List ℕ} → given_of r ≡ length_of given → after ≡ lent_after given lent → Gives given lent r after
-gives given lent r e left = record { answer = e; list = left; numbers = given_numbers_lem r given e }
+gives : (given : Answer (List ℕ)) (lent : List ℕ) (r : Result ℕ Fault) {after : List ℕ} → answer_of r ≡ length_of given → after ≡ lent_after given lent → Gives given lent r after
+gives given lent r e left = record { answer = e; list = left; numbers = given_numbers r given e }
 
-gives_nothing : {given : Answer (List ℕ)} {f g : Fault} (lent : List ℕ) → given ≡ refused f → g ≡ f → Gives given lent (One.Refused g) lent
-gives_nothing {given} {g = g} lent e q = gives given lent (One.Refused g) (rw (e, q)) (rw e)
+gives_nothing : {given : Answer (List ℕ)} {f g : Fault} (lent : List ℕ) → given ≡ refused f → g ≡ f → Gives given lent (Err g) lent
+gives_nothing {given} {g = g} lent e q = gives given lent (Err g) (rw (e, q)) (rw e)
 
 gives_list : {given : Answer (List ℕ)} {list : List ℕ} (lent : List ℕ) {after : List ℕ} {count : ℕ} → given ≡ accepted list → count ≡ length list → count ≤ length lent
-    → after ≡ sets lent 0 list → Gives given lent (One.Accepted count) after
-gives_list {given} {list} lent {count = count} e n room s = gives given lent (One.Accepted count) (rw (e, n)) (rw e (s ∙ stored_list list lent (omega arith)))
+    → after ≡ sets lent 0 list → Gives given lent (Ok count) after
+gives_list {given} {list} lent {count = count} e n room s = gives given lent (Ok count) (rw (e, n)) (rw e (s ∙ stored_list list lent (omega arith)))
 
 -- Both lists.
-abbrev pub GivesBoth : (given : Answer Lists) (values objects : List ℕ) → Reading → (values' objects' : List ℕ) → Type 0
+abbrev pub GivesBoth : (given : Answer Lists) (values objects : List ℕ) → Result Lengths Fault → (values' objects' : List ℕ) → Type 0
 GivesBoth given values objects r values' objects' =
     record {
-      answer : reading_of r ≡ lengths_of given;
+      answer : answer_of r ≡ lengths_of given;
       values : values' ≡ lent_after (values_in given) values;
       objects : objects' ≡ lent_after (objects_in given) objects;
-      numbers : reading_numbers r ≡ numbers_of 2 both_counted given;
+      numbers : result_numbers 2 both r ≡ numbers_of 2 both_counted given;
     }
 
-gives_both : (given : Answer Lists) (values objects : List ℕ) (r : Reading) {values' objects' : List ℕ} → reading_of r ≡ lengths_of given
+gives_both : (given : Answer Lists) (values objects : List ℕ) (r : Result Lengths Fault) {values' objects' : List ℕ} → answer_of r ≡ lengths_of given
     → values' ≡ lent_after (values_in given) values → objects' ≡ lent_after (objects_in given) objects → GivesBoth given values objects r values' objects'
-gives_both given values objects r e left left-objects = record { answer = e; values = left; objects = left-objects; numbers = reading_numbers_lem r given e }
+gives_both given values objects r e left left-objects = record { answer = e; values = left; objects = left-objects; numbers = reading_numbers r given e }
 
 gives_neither : {given : Answer Lists} {f g : Fault} (values objects : List ℕ) → given ≡ refused f → g ≡ f
-    → GivesBoth given values objects (Refused g) values objects
-gives_neither {given} {g = g} values objects e q = gives_both given values objects (Refused g) (rw (e, q)) (rw e) (rw e)
+    → GivesBoth given values objects (Err g) values objects
+gives_neither {given} {g = g} values objects e q = gives_both given values objects (Err g) (rw (e, q)) (rw e) (rw e)
 
 -- ---- what is answered of a message
 
@@ -129,7 +125,7 @@ module _ (t : TypeTable) (bytes : List ℕ) (root handles : ℕ) where
     lengths_held : accepted lengths ≡ accepted (record { values = length values_held; objects = length objects_held })
     lengths_held = rw (← h.values, ← h.objects)
 
-    module _ {values values' objects objects' : List ℕ} {r : Reading} (p : Passed t bytes root handles values values' objects objects' r) where
+    module _ {values values' objects objects' : List ℕ} {r : Result Lengths Fault} (p : Passed t bytes root handles values values' objects objects' r) where
       values_stored : values' ≡ sets values 0 values_held
       values_stored = p.valued ∙ ap (sets values 0) (held_lists h).0
 
@@ -137,70 +133,70 @@ module _ (t : TypeTable) (bytes : List ℕ) (root handles : ℕ) where
       objects_stored = p.listed ∙ rw (held_lists h).1
 
   -- What the checker promises.
-  abbrev pub Checks : Verdict → Type 0
-  Checks r = record { answer : verdict_of r ≡ A.check here root; numbers : verdict_numbers r ≡ numbers_of 0 nothing (A.check here root) }
+  abbrev pub Checks : Result (Unit {0}) Fault → Type 0
+  Checks r = record { answer : answer_of r ≡ A.check here root; numbers : result_numbers 0 nothing r ≡ numbers_of 0 nothing (A.check here root) }
 
-  module _ {a : Reading} (j : reading_of a ≡ judged_lengths here root) where
-    pub check_refused : {f : Fault} → a ≡ Refused f → Checks (Checked.Refused f)
+  module _ {a : Result Lengths Fault} (j : answer_of a ≡ judged_lengths here root) where
+    pub check_refused : {f : Fault} → a ≡ Err f → Checks (Err f)
     unfolding A.check
-    check_refused {f} e = let c : refused f ≡ A.check here root = rw (as_refused here root a j e) in record { answer = c; numbers = verdict_numbers_lem (Checked.Refused f) c }
+    check_refused {f} e = let c : refused f ≡ A.check here root = rw (as_refused here root a j e) in record { answer = c; numbers = result_numbers_lem 0 nothing (Err f) c }
 
-    pub check_accepted : {lengths : Lengths} → a ≡ Accepted lengths → Checks Checked.Accepted
+    pub check_accepted : {lengths : Lengths} → a ≡ Ok lengths → Checks (Ok tt)
     unfolding A.check
-    check_accepted e = let c : accepted tt ≡ A.check here root = rw (as_held here root a j e).held in record { answer = c; numbers = verdict_numbers_lem Checked.Accepted c }
+    check_accepted e = let c : accepted tt ≡ A.check here root = rw (as_held here root a j e).held in record { answer = c; numbers = result_numbers_lem 0 nothing (Ok tt) c }
 
-    pub values_refused : {f : Fault} (lent : List ℕ) → a ≡ Refused f → Gives (A.read_values here root (length lent)) lent (One.Refused f) lent
+    pub values_refused : {f : Fault} (lent : List ℕ) → a ≡ Err f → Gives (A.read_values here root (length lent)) lent (Err f) lent
     values_refused lent e = gives_nothing lent (no_values (as_refused here root a j e) (length lent)) refl
 
-    pub objects_refused : {f : Fault} (lent : List ℕ) → a ≡ Refused f → Gives (A.read_objects here root (length lent)) lent (One.Refused f) lent
+    pub objects_refused : {f : Fault} (lent : List ℕ) → a ≡ Err f → Gives (A.read_objects here root (length lent)) lent (Err f) lent
     objects_refused lent e = gives_nothing lent (no_objects (as_refused here root a j e) (length lent)) refl
 
-    pub both_refused : {f : Fault} (values objects : List ℕ) → a ≡ Refused f
-        → GivesBoth (A.read here root (length values) (length objects)) values objects (Refused f) values objects
+    pub both_refused : {f : Fault} (values objects : List ℕ) → a ≡ Err f
+        → GivesBoth (A.read here root (length values) (length objects)) values objects (Err f) values objects
     both_refused values objects e = gives_neither values objects (no_lists (as_refused here root a j e) (length values) (length objects)) refl
 
-    module _ {lengths : Lengths} (e : a ≡ Accepted lengths) where
+    module _ {lengths : Lengths} (e : a ≡ Ok lengths) where
       -- 22
       pub values_room : {f : Fault} (lent : List ℕ) → length lent < lengths.values → f ≡ fault room_too_small (Amount lengths.values)
-          → Gives (A.read_values here root (length lent)) lent (One.Refused f) lent
+          → Gives (A.read_values here root (length lent)) lent (Err f) lent
       values_room lent short q =
           let h = as_held here root a j e in
           gives_nothing lent (values_of h (length lent) ∙ room_short (length lent) _ h.values short) q
 
       pub objects_room : {f : Fault} (lent : List ℕ) → length lent < lengths.objects → f ≡ fault room_too_small (Amount lengths.objects)
-          → Gives (A.read_objects here root (length lent)) lent (One.Refused f) lent
+          → Gives (A.read_objects here root (length lent)) lent (Err f) lent
       objects_room lent short q =
           let h = as_held here root a j e in
           gives_nothing lent (objects_of h (length lent) ∙ room_short (length lent) _ h.objects short) q
 
       pub both_objects_room : {f : Fault} (values objects : List ℕ) → length objects < lengths.objects → f ≡ fault room_too_small (Amount lengths.objects)
-          → GivesBoth (A.read here root (length values) (length objects)) values objects (Refused f) values objects
+          → GivesBoth (A.read here root (length values) (length objects)) values objects (Err f) values objects
       both_objects_room values objects short q =
           gives_neither values objects (objects_first (as_held here root a j e) (length values) (length objects) short) q
 
       pub both_values_room : {f : Fault} (values objects : List ℕ) → lengths.objects ≤ length objects → length values < lengths.values
           → f ≡ fault room_too_small (Amount lengths.values)
-          → GivesBoth (A.read here root (length values) (length objects)) values objects (Refused f) values objects
+          → GivesBoth (A.read here root (length values) (length objects)) values objects (Err f) values objects
       both_values_room values objects room short q =
           gives_neither values objects (values_next (as_held here root a j e) (length values) (length objects) room short) q
 
       -- what is given
-      module _ {values values' objects objects' : List ℕ} {r : Reading} (p : Passed t bytes root handles values values' objects objects' r) where
-        pub values_read : lengths.values ≤ length values → Gives (A.read_values here root (length values)) values (One.Accepted lengths.values) values'
+      module _ {values values' objects objects' : List ℕ} {r : Result Lengths Fault} (p : Passed t bytes root handles values values' objects objects' r) where
+        pub values_read : lengths.values ≤ length values → Gives (A.read_values here root (length values)) values (Ok lengths.values) values'
         values_read room =
             let h = as_held here root a j e in
             gives_list values (values_of h (length values) ∙ room_enough (length values) _ h.values room) h.values room (values_stored h p)
 
-        pub objects_read : lengths.objects ≤ length objects → Gives (A.read_objects here root (length objects)) objects (One.Accepted lengths.objects) objects'
+        pub objects_read : lengths.objects ≤ length objects → Gives (A.read_objects here root (length objects)) objects (Ok lengths.objects) objects'
         objects_read room =
             let h = as_held here root a j e in
             gives_list objects (objects_of h (length objects) ∙ room_enough (length objects) _ h.objects room) h.objects room (objects_stored h p)
 
         pub both_read : lengths.objects ≤ length objects → lengths.values ≤ length values
-            → GivesBoth (A.read here root (length values) (length objects)) values objects (Accepted lengths) values' objects'
+            → GivesBoth (A.read here root (length values) (length objects)) values objects (Ok lengths) values' objects'
         both_read objects-fit values_fit =
             let h = as_held here root a j e in
             let given = both_of h (length values) (length objects) objects-fit values_fit in
-            gives_both (A.read here root (length values) (length objects)) values objects (Accepted lengths) (rw given (lengths_held h))
+            gives_both (A.read here root (length values) (length objects)) values objects (Ok lengths) (rw given (lengths_held h))
             (rw given (values_stored h p ∙ stored_list (values_held h) values (omega (arith, h.values))))
             (rw given (objects_stored h p ∙ stored_list (objects_held h) objects (omega (arith, h.objects))))

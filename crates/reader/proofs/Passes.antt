@@ -1,5 +1,6 @@
 -- The walk from the root on, and the tests after it: 20, 21.
 -- Assumes nothing.
+use Rattle.std.specs.Prelude.{Err, Ok, Result}
 use mathlib.Core.Path.{◌≡◌, refl, ◌∙◌}
 use mathlib.Core.Bool.{Bool, true, false}
 use mathlib.Core.List.{List}
@@ -17,19 +18,17 @@ use Rattle.rules.specs.Trace.{Event, primary_object, object_list}
 use Rattle.rules.specs.Decode as D
 use Rattle.rules.specs.Decode.{Message, Decoded, went, stopped}
 use Rattle.rules.specs.Walk as W
-use Rattle.rules.specs.Answers.{walk, finished}
+use Rattle.rules.specs.Answers.{walk, finished, answer_of}
 use Rattle.layout.proofs.Rows.{sound_rows, sound_size}
 use Rattle.layout.proofs.Keeping.{few_rows, kept_size}
 use Rattle.layout.specs.Ready.{Ready}
-use Rattle.reader.specs.declared.Reading.{Reading}
-use Rattle.reader.specs.declared.Reading.TheVariants as Both
 use Rattle.walk_leaves.specs.declared.cursor.Cursor.{Cursor}
-use Rattle.walk_leaves.specs.declared.cursor.Walked.{Walked}
-use Rattle.walk_leaves.specs.declared.cursor.Walked.TheVariants.{On, Refused}
+use Rattle.walk_leaves.specs.Doing.{Walked}
 use Rattle.walk_leaves.specs.Doing.{message, answer, Did, Ask}
 use Rattle.walk_leaves.specs.Parts.{claim_at, DidObjects}
 use Rattle.walk.specs.Walking.{ValueDid}
-use Rattle.reader.specs.Answers.{lengths_of, reading_of}
+use Rattle.reader.specs.declared.Lengths.{Lengths}
+use Rattle.reader.specs.Answers.{lengths_of}
 use Rattle.reader.specs.Passing.{lists_of, after_walk, start, Walkable, PrimaryDid, Passed}
 use Rattle.walk_leaves.proofs.Steps.{did_then, did_halt}
 use Rattle.walk_records.proofs.Claiming.{claim_then, claim_on}
@@ -60,12 +59,12 @@ module _ {t : TypeTable} {bytes : List ℕ} {root handles : ℕ} {sizes alignmen
         (claim_at primary_object root (size_of t root) (message t bytes handles) 0 0 0)
     claimed_root values = rw root_size at (claim t values handles (omega arith) (omega arith))
 
-    pub primary_refused : {values : List ℕ} {f : Fault} → r ≡ Refused f → PrimaryDid t bytes root handles values values objects objects' (Refused f)
+    pub primary_refused : {values : List ℕ} {f : Fault} → r ≡ Err f → PrimaryDid t bytes root handles values values objects objects' (Err f)
     primary_refused {values} e = rw (walk_then (message t bytes handles) root) (did_halt 4 _ (rw e at (claimed_root values)))
 
-    module _ {c : Cursor} (e : r ≡ On c) where
+    module _ {c : Cursor} (e : r ≡ Ok c) where
       opened : (values : List ℕ)
-          → Did (length bytes) handles 4 values values objects objects' start (On c)
+          → Did (length bytes) handles 4 values values objects objects' start (Ok c)
           (claim_at primary_object root (size_of t root) (message t bytes handles) 0 0 0)
       opened values = rw e at (claimed_root values)
 
@@ -105,17 +104,17 @@ module _ (t : TypeTable) (bytes : List ℕ) (root handles : ℕ) {values values'
   abbrev here : Message
   here = message t bytes handles
 
-  abbrev Ends : Reading → Type 0
+  abbrev Ends : Result Lengths Fault → Type 0
   Ends reading = Passed t bytes root handles values values' objects objects' reading
 
-  pub walk_refused : {f : Fault} → r ≡ Refused f → Ends (Both.Refused f)
+  pub walk_refused : {f : Fault} → r ≡ Err f → Ends (Err f)
   walk_refused {f} e = record { answers = go (walk here root) did.says; valued = did.valued; listed = did.listed }
     where
       go : (d : Decoded) → r ≡ answer start d → refused f ≡ lengths_of (lists_of (finished here d))
       go (went n u vs t) q = absurd (let w : ◌≡◌ {A = ℕ} 0 1 = cc in omega arith)
       go (stopped g vs t) q = let z : f ≡ g = cc in rw z
 
-  pub walk_ended : {end : Cursor} {reading : Reading} → r ≡ On end → reading_of reading ≡ after_walk end (length bytes) handles → Ends reading
+  pub walk_ended : {end : Cursor} {reading : Result Lengths Fault} → r ≡ Ok end → answer_of reading ≡ after_walk end (length bytes) handles → Ends reading
   walk_ended {end} {reading} e a = record { answers = a ∙ go (walk here root) did.says; valued = did.valued; listed = did.listed }
     where
       -- the lists of the walk are as long as the cursor says

@@ -1,6 +1,6 @@
 -- What the functions of pass.rt promise.
 -- Assumes nothing.
-use Rattle.std.specs.Prelude.{List, ◌≡◌, ℕ, ◌≤◌, leb, eqb, length}
+use Rattle.std.specs.Prelude.{List, ◌≡◌, ℕ, ◌≤◌, leb, eqb, length, Result}
 use Rattle.std.proofs.lemmas.List.Edits.{sets}
 use Rattle.rules.specs.declared.Place.TheVariants.{Byte, Amount}
 use Rattle.rules.specs.Refusals.{fault, too_many_handles, bytes_left, handles_left, Answer, accepted, require, and_then}
@@ -9,24 +9,23 @@ use Rattle.rules.specs.Sound.{root_allowed, require_row}
 use Rattle.rules.specs.Trace.{object_list}
 use Rattle.rules.specs.Decode.{Message, trace_of}
 use Rattle.rules.specs.Answers as A
-use Rattle.rules.specs.Answers.{Lists, walk, finished, require_length, judged}
+use Rattle.rules.specs.Answers.{Lists, walk, finished, require_length, judged, answer_of}
 use Rattle.layout.specs.Ready.{Ready}
-use Rattle.reader.specs.declared.Verdict.{Verdict}
 use Rattle.reader.specs.declared.Lengths.{Lengths}
-use Rattle.reader.specs.declared.Reading.{Reading}
 use Rattle.walk_leaves.specs.declared.cursor.Cursor.{Cursor}
-use Rattle.walk_leaves.specs.declared.cursor.Walked.{Walked}
+use Rattle.walk_leaves.specs.Doing.{Walked}
 use Rattle.walk_leaves.specs.Doing.{message, values_of, Did}
-use Rattle.reader.specs.Answers.{verdict_of, reading_of, lengths_of}
+use Rattle.reader.specs.Answers.{lengths_of}
+use Rattle.rules.specs.declared.Fault.{Fault}
 
 -- The lists of a message that is accepted.
 abbrev pub lists_of : Answer A.Reading → Answer Lists
 lists_of answer = and_then answer (λ reading. accepted (record { values = reading.values; objects = object_list reading.trace }))
 
 -- 2, 3 and 4, after the verdict on the type table: under every one that has these rows.
-abbrev pub BeforeWalk : (sound : Answer (Unit {0})) (rows : List ℕ) (root length handles : ℕ) → Verdict → Type 0
+abbrev pub BeforeWalk : (sound : Answer (Unit {0})) (rows : List ℕ) (root length handles : ℕ) → Result (Unit {0}) Fault → Type 0
 BeforeWalk sound rows root length handles r =
-    (t : TypeTable) → t.rows ≡ rows → verdict_of r
+    (t : TypeTable) → t.rows ≡ rows → answer_of r
     ≡ and_then sound (λ s. require_row (root_allowed t root) root
     (require_length length (require (leb handles 64) (fault too_many_handles (Amount 0)) (accepted tt))))
 
@@ -52,8 +51,8 @@ module _ (t : TypeTable) (bytes : List ℕ) (root handles : ℕ) where
     PrimaryDid r = Did (length bytes) handles 4 values values' objects objects' start r (walk (message t bytes handles) root)
 
     -- One walk with the tests after it. What there is no room for is left out of the lists.
-    pub record Passed (r : Reading) : Type 0 where
-      pub answers : reading_of r ≡ lengths_of (lists_of (finished (message t bytes handles) (walk (message t bytes handles) root)))
+    pub record Passed (r : Result Lengths Fault) : Type 0 where
+      pub answers : answer_of r ≡ lengths_of (lists_of (finished (message t bytes handles) (walk (message t bytes handles) root)))
       pub valued : values' ≡ sets values 0 (values_of (walk (message t bytes handles) root))
       pub listed : objects' ≡ sets objects 0 (object_list (trace_of (walk (message t bytes handles) root)))
 

@@ -9,50 +9,20 @@ ghost use Rattle.rules.specs.declared.Place.TheVariants.{Amount};
 ghost use Rattle.rules.specs.Refusals.{fault, lent_after};
 ghost use Rattle.rules.specs.TypeTable.{type_table};
 ghost use Rattle.rules.specs.Answers as Rules;
-ghost use Rattle.rules.specs.Answers.{numbers_of, nothing, counted, both_counted};
+ghost use Rattle.rules.specs.Answers.{numbers_of, nothing, counted, both_counted, answer_of, result_numbers};
 ghost use Rattle.walk_leaves.specs.Doing as Doing;
-ghost use Rattle.reader.specs.Answers.{verdict_of, verdict_numbers, given_of, given_numbers, reading_of, reading_numbers, length_of, lengths_of, values_in, objects_in};
+ghost use Rattle.reader.specs.Answers.{one, both, length_of, lengths_of, values_in, objects_in};
 
+use layout::laid::Laid;
 use pass::{judge, pass};
-use rules::{Fault, Place};
+use rules::{Fault, Place, Refusal};
 pub use with_state::check_prepared;
-
-// What the checker answers.
-#[derive(Clone, Copy)]
-pub enum Verdict {
-    Accepted,
-    Refused(Fault),
-}
-
-// What a reader of one list answers: how many numbers it gave, or a refusal.
-#[derive(Clone, Copy)]
-pub enum Given {
-    Accepted(usize),
-    Refused(Fault),
-}
 
 // How many numbers the value list and the object list of a message have.
 #[derive(Clone, Copy)]
 pub struct Lengths {
     pub values: usize,
     pub objects: usize,
-}
-
-// What the reader of both lists answers.
-#[derive(Clone, Copy)]
-pub enum Reading {
-    Accepted(Lengths),
-    Refused(Fault),
-}
-
-// 22, with what is needed as its place.
-fn room_too_small(needed: usize) -> Fault
-    ensures { result ≡ fault 22 (Amount needed) }
-{
-    Fault {
-        number: 22,
-        place: Place::Amount(needed),
-    }
 }
 
 // Every refusal but 22.
@@ -63,13 +33,13 @@ pub fn check(
     root: u32,
     message: &[u8],
     handles: u64,
-) -> Verdict
-    ensures answer { verdict_of result ≡ Rules.check (Doing.message (type_table rows.now members.now entries.now) message.now handles) root }
-    ensures numbers { verdict_numbers result ≡ numbers_of 0 nothing (Rules.check (Doing.message (type_table rows.now members.now entries.now) message.now handles) root) }
+) -> Result<(), Fault>
+    ensures answer { answer_of result ≡ Rules.check (Doing.message (type_table rows.now members.now entries.now) message.now handles) root }
+    ensures numbers { result_numbers 0 nothing result ≡ numbers_of 0 nothing (Rules.check (Doing.message (type_table rows.now members.now entries.now) message.now handles) root) }
 {
     let mut sizes = [0u32; 256];
     let mut alignments = [0u32; 256];
-    match judge(
+    judge(
         rows,
         members,
         entries,
@@ -78,10 +48,8 @@ pub fn check(
         root,
         message,
         handles,
-    ) {
-        Reading::Refused(f) => Verdict::Refused(f),
-        Reading::Accepted(_) => Verdict::Accepted,
-    }
+    )?;
+    Ok(())
 }
 
 // The value list. The walk that stores comes after the one that judges, so that a refusal changes nothing; nothing changes
@@ -94,14 +62,14 @@ pub fn read_values(
     message: &[u8],
     handles: u64,
     values: &mut [u64],
-) -> Given
-    ensures answer { given_of result ≡ length_of (Rules.read_values (Doing.message (type_table rows.now members.now entries.now) message.now handles) root (length values.old)) }
+) -> Result<usize, Fault>
+    ensures answer { answer_of result ≡ length_of (Rules.read_values (Doing.message (type_table rows.now members.now entries.now) message.now handles) root (length values.old)) }
     ensures list { values.new ≡ lent_after (Rules.read_values (Doing.message (type_table rows.now members.now entries.now) message.now handles) root (length values.old)) values.old }
-    ensures numbers { given_numbers result ≡ numbers_of 1 counted (Rules.read_values (Doing.message (type_table rows.now members.now entries.now) message.now handles) root (length values.old)) }
+    ensures numbers { result_numbers 1 one result ≡ numbers_of 1 counted (Rules.read_values (Doing.message (type_table rows.now members.now entries.now) message.now handles) root (length values.old)) }
 {
     let mut sizes = [0u32; 256];
     let mut alignments = [0u32; 256];
-    match judge(
+    let needed = judge(
         rows,
         members,
         entries,
@@ -110,28 +78,20 @@ pub fn read_values(
         root,
         message,
         handles,
-    ) {
-        Reading::Refused(f) => Given::Refused(f),
-        Reading::Accepted(needed) => {
-            if values.len() < needed.values {
-                return Given::Refused(room_too_small(needed.values));
-            }
-            let mut no_objects = [0u32; 0];
-            pass(
-                rows,
-                members,
-                entries,
-                &sizes,
-                &alignments,
-                root,
-                message,
-                handles,
-                values,
-                &mut no_objects,
-            );
-            Given::Accepted(needed.values)
-        }
+    )?;
+    if values.len() < needed.values {
+        return Err(Refusal::RoomTooSmall.at(Place::Amount(needed.values)));
     }
+    let mut no_objects = [0u32; 0];
+    let laid = Laid {
+        rows,
+        members,
+        entries,
+        sizes: &sizes,
+        alignments: &alignments,
+    };
+    let _ = pass(&laid, root, message, handles, values, &mut no_objects);
+    Ok(needed.values)
 }
 
 // The object list, in the same way.
@@ -143,14 +103,14 @@ pub fn read_objects(
     message: &[u8],
     handles: u64,
     objects: &mut [u32],
-) -> Given
-    ensures answer { given_of result ≡ length_of (Rules.read_objects (Doing.message (type_table rows.now members.now entries.now) message.now handles) root (length objects.old)) }
+) -> Result<usize, Fault>
+    ensures answer { answer_of result ≡ length_of (Rules.read_objects (Doing.message (type_table rows.now members.now entries.now) message.now handles) root (length objects.old)) }
     ensures list { objects.new ≡ lent_after (Rules.read_objects (Doing.message (type_table rows.now members.now entries.now) message.now handles) root (length objects.old)) objects.old }
-    ensures numbers { given_numbers result ≡ numbers_of 1 counted (Rules.read_objects (Doing.message (type_table rows.now members.now entries.now) message.now handles) root (length objects.old)) }
+    ensures numbers { result_numbers 1 one result ≡ numbers_of 1 counted (Rules.read_objects (Doing.message (type_table rows.now members.now entries.now) message.now handles) root (length objects.old)) }
 {
     let mut sizes = [0u32; 256];
     let mut alignments = [0u32; 256];
-    match judge(
+    let needed = judge(
         rows,
         members,
         entries,
@@ -159,28 +119,20 @@ pub fn read_objects(
         root,
         message,
         handles,
-    ) {
-        Reading::Refused(f) => Given::Refused(f),
-        Reading::Accepted(needed) => {
-            if objects.len() < needed.objects {
-                return Given::Refused(room_too_small(needed.objects));
-            }
-            let mut no_values = [0u64; 0];
-            pass(
-                rows,
-                members,
-                entries,
-                &sizes,
-                &alignments,
-                root,
-                message,
-                handles,
-                &mut no_values,
-                objects,
-            );
-            Given::Accepted(needed.objects)
-        }
+    )?;
+    if objects.len() < needed.objects {
+        return Err(Refusal::RoomTooSmall.at(Place::Amount(needed.objects)));
     }
+    let mut no_values = [0u64; 0];
+    let laid = Laid {
+        rows,
+        members,
+        entries,
+        sizes: &sizes,
+        alignments: &alignments,
+    };
+    let _ = pass(&laid, root, message, handles, &mut no_values, objects);
+    Ok(needed.objects)
 }
 
 // Both lists. 22 of the objects comes before that of the values.
@@ -193,15 +145,15 @@ pub fn read(
     handles: u64,
     values: &mut [u64],
     objects: &mut [u32],
-) -> Reading
-    ensures answer { reading_of result ≡ lengths_of (Rules.read (Doing.message (type_table rows.now members.now entries.now) message.now handles) root (length values.old) (length objects.old)) }
+) -> Result<Lengths, Fault>
+    ensures answer { answer_of result ≡ lengths_of (Rules.read (Doing.message (type_table rows.now members.now entries.now) message.now handles) root (length values.old) (length objects.old)) }
     ensures values { values.new ≡ lent_after (values_in (Rules.read (Doing.message (type_table rows.now members.now entries.now) message.now handles) root (length values.old) (length objects.old))) values.old }
     ensures objects { objects.new ≡ lent_after (objects_in (Rules.read (Doing.message (type_table rows.now members.now entries.now) message.now handles) root (length values.old) (length objects.old))) objects.old }
-    ensures numbers { reading_numbers result ≡ numbers_of 2 both_counted (Rules.read (Doing.message (type_table rows.now members.now entries.now) message.now handles) root (length values.old) (length objects.old)) }
+    ensures numbers { result_numbers 2 both result ≡ numbers_of 2 both_counted (Rules.read (Doing.message (type_table rows.now members.now entries.now) message.now handles) root (length values.old) (length objects.old)) }
 {
     let mut sizes = [0u32; 256];
     let mut alignments = [0u32; 256];
-    match judge(
+    let lengths = judge(
         rows,
         members,
         entries,
@@ -210,28 +162,20 @@ pub fn read(
         root,
         message,
         handles,
-    ) {
-        Reading::Refused(f) => Reading::Refused(f),
-        Reading::Accepted(lengths) => {
-            if objects.len() < lengths.objects {
-                return Reading::Refused(room_too_small(lengths.objects));
-            }
-            if values.len() < lengths.values {
-                return Reading::Refused(room_too_small(lengths.values));
-            }
-            pass(
-                rows,
-                members,
-                entries,
-                &sizes,
-                &alignments,
-                root,
-                message,
-                handles,
-                values,
-                objects,
-            );
-            Reading::Accepted(lengths)
-        }
+    )?;
+    if objects.len() < lengths.objects {
+        return Err(Refusal::RoomTooSmall.at(Place::Amount(lengths.objects)));
     }
+    if values.len() < lengths.values {
+        return Err(Refusal::RoomTooSmall.at(Place::Amount(lengths.values)));
+    }
+    let laid = Laid {
+        rows,
+        members,
+        entries,
+        sizes: &sizes,
+        alignments: &alignments,
+    };
+    let _ = pass(&laid, root, message, handles, values, objects);
+    Ok(lengths)
 }

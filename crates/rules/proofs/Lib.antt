@@ -19,3 +19,4 @@ pub mod Numbers
 pub mod Edition
 pub mod Amounts
 pub mod Header
+pub mod Passing

@@ -1,7 +1,8 @@
 -- The whole answers of the operations, from any inputs: document 01's section "Numbers and places".
 -- Assumes nothing.
-use Rattle.std.specs.Prelude.{List, [], ◌∷◌, ℕ, ◌-◌, leb, ltb, eqb, length}
+use Rattle.std.specs.Prelude.{List, [], ◌∷◌, ℕ, ◌-◌, leb, ltb, eqb, length, Result, Ok, Err}
 use Rattle.rules.specs.declared.Place.TheVariants.{Byte, Index, Amount}
+use Rattle.rules.specs.declared.Fault.{Fault}
 use Rattle.rules.specs.declared.Layout.{Layout}
 use Rattle.rules.specs.Refusals.{fault, place_number, message_too_long, too_many_handles, text_not_utf8, bytes_left, handles_left, room_too_small, not_a_value, Answer, accepted, refused, require, and_then, lent_after}
 use Rattle.rules.specs.Bytes.{zeros}
@@ -150,3 +151,15 @@ both_counted lists = length lists.values ∷ length lists.objects ∷ []
 -- of the writer "the byte and handle counts".
 abbrev pub sized : Written → List ℕ
 sized w = length w.bytes ∷ w.handles ∷ []
+
+-- ---- what code answers
+
+-- A `Result` of the code as an answer of the rules,
+abbrev pub answer_of : {A : Type 0} → Result A Fault → Answer A
+answer_of (Ok a) = accepted a
+answer_of (Err f) = refused f
+
+-- and in document 01's numbers, case by case.
+abbrev pub result_numbers : {A : Type 0} (count : ℕ) (values : A → List ℕ) → Result A Fault → Numbers
+result_numbers count values (Ok a) = record { number = 0; place = 0; values = values a }
+result_numbers count values (Err f) = record { number = f.number; place = place_number f.place; values = zeros count }

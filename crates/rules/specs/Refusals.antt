@@ -4,6 +4,8 @@ use Rattle.std.specs.Prelude.{Bool, true, false, List, ◌++◌, ℕ, length, dr
 use Rattle.rules.specs.declared.Place.{Place}
 use Rattle.rules.specs.declared.Place.TheVariants.{Row, Byte, Index, Amount}
 use Rattle.rules.specs.declared.Fault.{Fault}
+use Rattle.rules.specs.declared.Refusal.{Refusal}
+use Rattle.rules.specs.declared.Refusal.TheVariants as R
 
 -- ---- the numbers
 
@@ -126,6 +128,39 @@ state_disagrees = 34
 -- unknown content claims more handles than its payload has room for
 abbrev pub handles_impossible : ℕ
 handles_impossible = 35
+
+-- The number of a refusal that the code names.
+abbrev pub number_of : Refusal → ℕ
+number_of R.TableNotSound = table_not_sound
+number_of R.RootNotAllowed = root_not_allowed
+number_of R.MessageTooLong = message_too_long
+number_of R.TooManyHandles = too_many_handles
+number_of R.TooDeep = too_deep
+number_of R.ObjectDoesNotFit = object_does_not_fit
+number_of R.FillNotZero = fill_not_zero
+number_of R.BoolNotZeroOrOne = bool_not_zero_or_one
+number_of R.PresenceWrong = presence_wrong
+number_of R.RequiredAbsent = required_absent
+number_of R.AbsentNotZero = absent_not_zero
+number_of R.CountOverLargest = count_over_largest
+number_of R.TextNotUtf8 = text_not_utf8
+number_of R.TooFewHandles = too_few_handles
+number_of R.EnvelopeFormWrong = envelope_form_wrong
+number_of R.ByteNumberWrong = byte_number_wrong
+number_of R.OrdinalUnknown = ordinal_unknown
+number_of R.PresentEnvelopeZero = present_envelope_zero
+number_of R.LastEnvelopeZero = last_envelope_zero
+number_of R.BytesLeft = bytes_left
+number_of R.HandlesLeft = handles_left
+number_of R.RoomTooSmall = room_too_small
+number_of R.MagicWrong = magic_wrong
+number_of R.OrdinalZero = ordinal_zero
+number_of R.EpitaphTransaction = epitaph_transaction
+number_of R.NotAValue = not_a_value
+number_of R.HandleNumberWrong = handle_number_wrong
+number_of R.StrictValueUnknown = strict_value_unknown
+number_of R.StateDisagrees = state_disagrees
+number_of R.HandlesImpossible = handles_impossible
 
 -- ---- answers
 

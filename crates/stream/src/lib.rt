@@ -2,78 +2,69 @@
 // the line too. In a case a list stands as its length and then its numbers.
 #![tactic(auto)]
 
-ghost use Rattle.std.specs.Prelude.{◌≡◌, ◌+◌, ◌≤◌, length, take, drop, replicate};
-ghost use Rattle.stream.specs.Numbers.{is_digit, with_digit, LineRead, list_at, start_at, Narrows, TablePut, same_numbers};
+ghost use Rattle.std.specs.Prelude.{◌≡◌, ℕ, ◌+◌, ◌-◌, ◌*◌, ◌%◌, ◌<◌, ◌≤◌, length, take, drop, replicate};
+ghost use Rattle.stream.specs.Numbers.{with_digit, LineRead, list_at, after_list, start_at, byte_of, word_of, Narrows, third_place, TablePut, same_numbers};
 
 // Room for a stream, and for the numbers of a line of it.
 pub const TEXT_ROOM: usize = 655360;
 
 pub const LINE_ROOM: usize = 16384;
 
-pub fn text_room() -> [u8; TEXT_ROOM]
-    ensures zeros { result ≡ replicate 655360 0 }
-    ensures long { 655360 ≡ length result }
+// A list of one value, to be lent.
+pub fn room<T: Copy, const N: usize>(value: T) -> [T; N]
+    ensures filled { result ≡ replicate N value }
+    ensures long { N ≡ length result }
 {
-    [0; TEXT_ROOM]
+    [value; N]
 }
 
-pub fn line_room() -> [u64; LINE_ROOM]
-    ensures zeros { result ≡ replicate 16384 0 }
-    ensures long { 16384 ≡ length result }
-{
-    [0; LINE_ROOM]
-}
-
-// How many numbers stand in a line, and where the next line starts.
+// How many numbers stand in a line, and the text after it.
 #[derive(Clone, Copy)]
-pub struct Line {
+pub struct Line<'a> {
     pub count: usize,
-    pub next: usize,
+    pub rest: &'a [u8],
 }
 
-// Puts the numbers of the line that starts at a place into a lent list, those that it has room for, and counts them all.
-pub fn read_line(text: &[u8], from: usize, numbers: &mut [u64]) -> Line
-    ensures { LineRead (drop from text.now) from numbers.old result.count result.next numbers.new }
+// Puts the numbers of the first line into a lent list, those that it has room for, and counts them all.
+pub fn read_line<'a>(text: &'a [u8], numbers: &mut [u64]) -> Line<'a>
+    ensures read { LineRead text.now numbers.old result.count result.rest.now numbers.new }
+    ensures shorter { 0 < length text.now → length result.rest.now < length text.now }
+    ensures start { result.rest.ref_ptr ≡ (text.entry.ref_ptr.0, length text.now - length result.rest.now + text.entry.ref_ptr.1) }
 {
     let mut value: u64 = 0;
     let mut count: usize = 0;
-    let mut at = from;
-    while at < text.len() {
-        let byte = text[at];
-        at += 1;
-        if is_digit(byte) {
-            value = with_digit(value, byte);
+    for (at, byte) in text.iter().enumerate() {
+        if byte.is_ascii_digit() {
+            value = with_digit(value, *byte);
             continue;
         }
-        words::put_value(numbers, count, value);
+        words::put_item(numbers, count, value);
         count += 1;
         value = 0;
-        if byte == 10 {
-            return Line { count, next: at };
+        if *byte == b'\n' {
+            return Line {
+                count,
+                rest: &text[at + 1..],
+            };
         }
     }
-    Line { count, next: at }
-}
-
-fn is_digit(byte: u8) -> bool
-    ensures { result ≡ is_digit byte }
-{
-    (48 <= byte) & (byte <= 57)
-}
-
-fn with_digit(value: u64, byte: u8) -> u64
-    requires { (48 ≤ byte) × (byte ≤ 57) }
-    ensures { result ≡ with_digit value byte }
-{
-    let digit = (byte - 48) as u64;
-    if value <= (u64::MAX - digit) / 10 {
-        value * 10 + digit
-    } else {
-        u64::MAX
+    Line {
+        count,
+        rest: &text[text.len()..],
     }
 }
 
-// The numbers from a place on,
+// Not `parse`: a number over the largest is the largest.
+fn with_digit(value: u64, digit: u8) -> u64
+    requires { (48 ≤ digit) × (digit ≤ 57) }
+    ensures { result ≡ with_digit value digit }
+{
+    value
+        .saturating_mul(10)
+        .saturating_add(u64::from(digit - b'0'))
+}
+
+// The numbers from a place on; past the end, the list's empty start. (`get` does not tell where a part starts.)
 pub fn rest(numbers: &[u64], at: usize) -> &[u64]
     ensures numbers { result.now ≡ drop at numbers.now }
     ensures start { result.ref_ptr ≡ start_at numbers.now at numbers.entry.ref_ptr }
@@ -85,99 +76,93 @@ pub fn rest(numbers: &[u64], at: usize) -> &[u64]
     }
 }
 
-// and so many from the first on.
+// So many numbers from the first on.
 pub fn first(numbers: &[u64], count: usize) -> &[u64]
     ensures numbers { result.now ≡ take count numbers.now }
     ensures start { result.ref_ptr ≡ numbers.entry.ref_ptr }
 {
-    if count <= numbers.len() {
-        &numbers[..count]
-    } else {
-        numbers
-    }
+    &numbers[..count.min(numbers.len())]
 }
 
-// The list whose length stands at a place of a case.
-pub fn list(case: &[u64], at: usize) -> &[u64]
-    ensures numbers { result.now ≡ list_at case.now at }
-    ensures start { result.ref_ptr ≡ start_at case.now (at + 1) case.entry.ref_ptr }
+// The list whose length stands first in a case, and the numbers after it.
+pub fn split_list(case: &[u64]) -> (&[u64], &[u64])
+    ensures list { result.0.now ≡ list_at case.now 0 }
+    ensures list_start { result.0.ref_ptr ≡ start_at case.now 1 case.entry.ref_ptr }
+    ensures rest { result.1.now ≡ after_list case.now 0 }
+    ensures rest_start { result.1.ref_ptr ≡ start_at case.now (1 + length result.0.now) case.entry.ref_ptr }
 {
-    if case.len() <= at {
-        return &case[..0];
+    if case.is_empty() {
+        return (case, case);
     }
-    first(rest(case, at + 1), words::value_at(case, at) as usize)
+    let list = first(&case[1..], case[0] as usize);
+    (list, &case[1 + list.len()..])
 }
 
-// Puts numbers into a lent list of bytes, those that it has room for, and says how many;
-pub fn to_bytes(numbers: &[u64], bytes: &mut [u8]) -> usize
-    ensures { Narrows 256 numbers.now bytes.old result bytes.new }
+// What the numbers of a case are put into: bytes, or words as those of a type table are.
+pub trait Narrow: Copy {
+    ghost narrowed: { ℕ → Self };
+
+    fn narrow(number: u64) -> Self
+        ensures { result ≡ narrowed number };
+}
+
+impl Narrow for u8 {
+    ghost narrowed = { byte_of };
+
+    fn narrow(number: u64) -> u8 {
+        (number % 256) as u8
+    }
+}
+
+impl Narrow for u32 {
+    ghost narrowed = { word_of };
+
+    fn narrow(number: u64) -> u32 {
+        (number % 4294967296) as u32
+    }
+}
+
+// Puts numbers into a lent list of a narrower type, those that it has room for, and says how many.
+pub fn put_narrow<T: Narrow>(numbers: &[u64], lent: &mut [T]) -> usize
+    ensures { Narrows T.narrowed numbers.now lent.old result lent.new }
 {
-    let mut at = 0;
-    while at < numbers.len() {
-        if bytes.len() <= at {
-            return at;
-        }
-        bytes[at] = (numbers[at] % 256) as u8;
-        at += 1;
+    let count = numbers.len().min(lent.len());
+    for (at, number) in numbers[..count].iter().enumerate() {
+        lent[at] = T::narrow(*number);
     }
-    at
+    count
 }
 
-// and into a list of words, as those of a type table are.
-pub fn to_words(numbers: &[u64], words: &mut [u32]) -> usize
-    ensures { Narrows 4294967296 numbers.now words.old result words.new }
-{
-    let mut at = 0;
-    while at < numbers.len() {
-        if words.len() <= at {
-            return at;
-        }
-        words[at] = (numbers[at] % 4294967296) as u32;
-        at += 1;
-    }
-    at
-}
-
-// How many numbers of a row list and of a member list were put into lent lists, where the entries stand, which need no list of their
-// own, and where the numbers after all three start.
+// How many numbers of a row list and of a member list were put into lent lists, the entries, which need no list of their own,
+// and the numbers after all three.
 #[derive(Clone, Copy)]
-pub struct Table {
+pub struct Table<'a> {
     pub rows: usize,
     pub members: usize,
-    pub entries: usize,
-    pub next: usize,
+    pub entries: &'a [u64],
+    pub rest: &'a [u64],
 }
 
 // Puts the row list and the member list that stand first into lent lists.
-pub fn put_table(numbers: &[u64], rows: &mut [u32], members: &mut [u32]) -> Table
-    ensures { TablePut numbers.now rows.old members.old result.rows result.members result.entries result.next rows.new members.new }
+pub fn put_table<'a>(numbers: &'a [u64], rows: &mut [u32], members: &mut [u32]) -> Table<'a>
+    ensures put { TablePut numbers.now rows.old members.old result.rows result.members result.entries.now result.rest.now rows.new members.new }
+    ensures entries { third_place numbers.now < length numbers.now → result.entries.ref_ptr ≡ (numbers.entry.ref_ptr.0, (third_place numbers.now + 1) * 8 + numbers.entry.ref_ptr.1) }
+    ensures rest { third_place numbers.now < length numbers.now → result.rest.ref_ptr ≡ (numbers.entry.ref_ptr.0, (third_place numbers.now + (1 + length result.entries.now)) * 8 + numbers.entry.ref_ptr.1) }
 {
-    let row_list = list(numbers, 0);
-    let at_members = 1 + row_list.len();
-    let member_list = list(numbers, at_members);
-    let at_entries = at_members + 1 + member_list.len();
-    let entry_list = list(numbers, at_entries);
+    let (row_list, after_rows) = split_list(numbers);
+    let (member_list, after_members) = split_list(after_rows);
+    let (entries, rest) = split_list(after_members);
     Table {
-        rows: to_words(row_list, rows),
-        members: to_words(member_list, members),
-        entries: at_entries,
-        next: at_entries + 1 + entry_list.len(),
+        rows: put_narrow(row_list, rows),
+        members: put_narrow(member_list, members),
+        entries,
+        rest,
     }
 }
 
-// Are two lists of numbers equal?
+// Are two lists of numbers equal? That is `==`, promised by `same_numbers`, as programs cite it.
 pub fn same(left: &[u64], right: &[u64]) -> bool
     ensures { result ≡ same_numbers left.now right.now }
 {
-    if left.len() != right.len() {
-        return false;
-    }
-    let mut at = 0;
-    while at < left.len() {
-        if left[at] != right[at] {
-            return false;
-        }
-        at += 1;
-    }
-    true
+    left == right
 }

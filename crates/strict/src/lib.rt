@@ -12,18 +12,19 @@ fn shift_away(value: u64, entry: u64) -> u32
     if value < entry { 32 } else { 0 }
 }
 
-// Whether a value is among the entries of a strict enum, searched by halves: the entries that a sound row names rise. Where a turn
-// stays in the lower half, a half of at most 512 is shifted away: a choice would be compiled to a branch, which costs more than the
-// search where values come in no order.
-fn among(entries: &[u64], first: usize, count: usize, value: u64) -> bool
-    requires { Rising entries.now first count × (first + count ≤ length entries.now) × (length entries.now ≤ 1024) }
-    ensures { result ≡ among_entries entries.now first count value }
+// Whether a value is among entries that rise, searched by halves. Where a turn stays in the lower half, a half of at most 512 is
+// shifted away: a choice would be compiled to a branch, and the library's search, which makes one, takes twice as long where values
+// come in no order.
+#[tactic(auto, using(crate::proofs::Searching::among_empty, crate::proofs::Searching::narrowed_whole, crate::proofs::Searching::away_small, crate::proofs::Searching::narrowed_next, crate::proofs::Searching::narrowed_one))]
+fn among(entries: &[u64], value: u64) -> bool
+    requires { Rising entries.now 0 (length entries.now) × (length entries.now ≤ 1024) }
+    ensures { result ≡ among_entries entries.now 0 (length entries.now) value }
 {
-    if count == 0 {
+    if entries.is_empty() {
         return false;
     }
-    let mut low = first;
-    let mut left = count;
+    let mut low = 0;
+    let mut left = entries.len();
     while 1 < left {
         let half = left / 2;
         let middle = low + half;
@@ -42,12 +43,13 @@ fn within_mask(mask: u64, value: u64) -> bool
 
 // Whether a strict enum (kind 11) or strict bits (kind 12) allow a value: the entries are `count` from `first` on, or `first` is
 // the mask.
+#[tactic(auto, using(crate::proofs::Searching::among_part))]
 pub fn allows(entries: &[u64], kind: u32, first: usize, count: usize, value: u64) -> bool
     requires { Searchable entries.now kind first count }
     ensures { result ≡ allowed entries.now kind first count value }
 {
     if kind == 11 {
-        return among(entries, first, count, value);
+        return among(&entries[first..first + count], value);
     }
-    within_mask(words::value_at(entries, first), value)
+    within_mask(words::item_at(entries, first), value)
 }

@@ -1,6 +1,7 @@
 -- The classes of bytes, by one test over the whole table.
 -- Assumes nothing.
-use Rattle.std.specs.Prelude.{if◌then◌else◌}
+use Rattle.std.specs.Prelude.{if◌then◌else◌, Result, Ok, Err, OkIff}
+use Rattle.std.specs.Result.{result_unwrap_or}
 use mathlib.Core.Path.{◌≡◌, refl, sym, ◌∙◌, ap}
 use mathlib.Core.Bool.{Bool, true, false, ◌&&◌, and-false, false≢true}
 use mathlib.Core.List.{List, [], ◌∷◌, map, Memᴰ}
@@ -8,8 +9,8 @@ use mathlib.Core.Logic.{⊎_elim}
 use Prim.Native.Nat.{ℕ, zero, suc, ◌≤◌, ◌<◌}
 use native.Mathlib.Nat.{eq-or-lt_of_le}
 use native.Mathlib.Omega.{arith}
-use borrow.Author.Tests.{ltb-true, lt-leb, eqb-true}
-use lib.Dec.{eqb, ltb}
+use borrow.Author.Tests.{ltb-true, lt-leb, le-leb, leb-true, eqb-true}
+use lib.Dec.{eqb, leb, ltb}
 use lib.ListN.{length, get_or}
 use Rattle.rules.specs.Text.{Range, range, holds}
 use Rattle.rules.proofs.Tests.{both}
@@ -139,3 +140,15 @@ none_holds number (range low high ∷ rs) h r (Memᴰ.tail m) = none_holds numbe
 
 pub capped_alike : (number : ℕ) → 255 ≤ number → Alike number 255
 capped_alike number h r m = none_holds number ranges (omega arith) r m ∙ sym (none_holds 255 ranges (omega arith) r m)
+
+-- A number that is judged as the byte that it is, or as the last one.
+pub as_byte : {E : Type 0} (number byte : ℕ) (r : Result ℕ E) → OkIff r (number < 256) number → byte ≡ result_unwrap_or r 255 → Alike number byte
+as_byte number byte (Ok v) fits is = let same : number ≡ byte = sym (is ∙ fits.1) in λ r m. ap (holds r) same
+as_byte number byte (Err e) none is = rw is (capped_alike number (omega arith))
+
+-- It is ASCII where the byte is: the range 00-7F holds both.
+pub ascii_as_byte : {number byte : ℕ} → Alike number byte → byte < 0x80 → number < 0x80
+ascii_as_byte {number} {byte} alike ascii =
+    let held : holds (range 0x00 0x7F) byte ≡ true = simp (le-leb 0 byte (omega arith), le-leb byte 0x7F (omega arith)) in
+    let is = alike (range 0x00 0x7F) (Memᴰ.head refl) ∙ held in
+    omega (arith, leb-true number 0x7F (both (leb 0 number) (leb number 0x7F) is).1)

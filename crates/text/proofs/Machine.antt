@@ -4,20 +4,23 @@ use Rattle.std.specs.Prelude.{if◌then◌else◌}
 use mathlib.Core.Path.{◌≡◌, refl, sym, ◌∙◌, ap}
 use mathlib.Core.Bool.{Bool, true, false, ◌&&◌, ◌||◌, false≢true}
 use mathlib.Core.List.Memᴰ
-use mathlib.Core.List.{List, [], ◌∷◌, Memᴰ}
-use Prim.Native.Nat.{ℕ, zero, suc, ◌+◌, ◌*◌, ◌/◌, ◌%◌, ◌^◌, ◌≤◌, ◌<◌}
+use mathlib.Core.List.{List, [], ◌∷◌, ◌++◌, map, Memᴰ}
+use Prim.Native.Nat.{ℕ, zero, suc, ◌+◌, ◌-◌, ◌*◌, ◌/◌, ◌%◌, ◌^◌, ◌≤◌, ◌<◌}
+use native.Mathlib.Nat.{add-zero}
 use native.Mathlib.Numerals.{add-one}
 use native.Mathlib.Omega.{arith}
-use borrow.Author.Tests.{ltb-true, eqb-true, eqb-false, eq-eqb, ne_eqb}
+use borrow.Author.Tests.{ltb-true, eqb-true, eq-eqb, ne_eqb}
 use lib.Dec.{eqb, ltb}
-use lib.ListN.{length, drop, get_or, drop_of_length-le}
+use lib.ListN.{length, take, drop, get_or, drop_of_length-le}
+use Rattle.std.proofs.lemmas.List.{length-take-le, length-take, length-drop, length-map, take_all, take-append-drop, drop-drop, map_more}
 use lib.Seq.{drop-cons}
-use Rattle.rules.specs.Text.{Range, range, holds, Form, form, forms, Led, led, not_a_lead, leads, broken, is_text, follows}
+use Rattle.rules.specs.Text.{Range, range, holds, Form, form, forms, Led, led, not_a_lead, leads, broken, follows}
 use Rattle.rules.proofs.Tests.{both}
 use Rattle.text.specs.Sequences.{text_from, Passes}
 use Rattle.text.specs.Classes.{ranges_of, ranges, same_range, is_in, holds_class, class_of, Alike}
-use Rattle.text.specs.Machine.{due_in, steps, Stands, due_after, StepsTo, At, Reached}
-use Rattle.text.proofs.Laws.{begins, ends}
+use Rattle.text.specs.Machine.{due_in, steps, Stands, due_after, due_over, StepsTo, StepsOver, At, Reached}
+use Rattle.text.proofs.Laws.{begins}
+use Rattle.text.proofs.Runs.{rest, chunk_numbers, chunk_inside}
 use Rattle.text.proofs.Classes.{all_below, below, same, is_same, classes_right}
 
 -- ---- what is due after a number, by what the ranges say of it
@@ -246,10 +249,64 @@ begun p is = record {
   alike = p.alike;
 }
 
-pub stepped_on :
-    {text : List ℕ} {from at word next : ℕ} → Reached text from at word → at < length text → StepsTo word (get_or text at 0) next →
-    Reached text from (at + 1) next
-stepped_on r inside steps = record { start = _; there = stepped r.there inside steps }
+-- Numbers one after the other lead to the same.
+over_numbers :
+    (numbers rest : List ℕ) (start at : ℕ) (due : Led) →
+    (later : ℕ) × (follows (numbers ++ rest) start at due ≡ follows rest later (at + length numbers) (due_over numbers due))
+over_numbers [] rest start at due = (start, rw (add-zero at))
+over_numbers (n ∷ numbers) rest start at due =
+    let next = over_numbers numbers rest (if between due then at else start) (suc at) (due_after n due) in
+    let place : suc at + length numbers ≡ at + suc (length numbers) = omega arith in
+    (next.0, one_number n (numbers ++ rest) start at due ∙ rw place at next.1)
+
+pub stepped_over :
+    {text : List ℕ} {from at word next : ℕ} (n : ℕ) → Reached text from at word → at + n ≤ length text → StepsOver word (take n (drop at text)) next →
+    Reached text from (at + n) next
+stepped_over {text} {from} {at} n r inside steps =
+    let here = r.there in
+    let part = take n (drop at text) in
+    let over = over_numbers part (drop (at + n) text) r.start at here.due in
+    let long : length part ≡ n = length-take-le n (drop at text) (omega (arith, length-drop at text)) in
+    let cut : drop at text ≡ part ++ drop (at + n) text =
+    sym (take-append-drop n (drop at text)) ∙ ap (λ (rest : List ℕ). part ++ rest) (drop-drop n at text) in
+    record {
+      start = over.0;
+      there = record {
+        onward = omega arith;
+        within = inside;
+        due = due_over part here.due;
+        stands = steps here.due here.stands;
+        alike = here.alike ∙ ap (λ (rest : List ℕ). follows rest r.start at here.due) cut ∙ rw long at over.1;
+      };
+    }
+
+-- The same over a chunk of a text, and over all that is left of it.
+pub over_chunk :
+    {X : Type 0} (f : X → ℕ) (text : List X) {chunk : List X} (n : ℕ) {from at word next : ℕ} → n ≤ length (rest text at) → chunk ≡ take n (rest text at) →
+    Reached (map f text) from at word → StepsOver word (map f chunk) next → Reached (map f text) from (at + n) next
+over_chunk f text {chunk} n {from} {at} long is r steps =
+    stepped_over n r (chunk_inside f text n at long r.there.within) (rw (chunk_numbers f text {chunk = chunk} n at is) at steps)
+
+pub over_rest :
+    {X : Type 0} (f : X → ℕ) (text : List X) {from at word next : ℕ} →
+    Reached (map f text) from at word → StepsOver word (map f (rest text at)) next → Reached (map f text) from (length text) next
+over_rest f text {from} {at} r steps =
+    let n = length text - at in
+    let whole : at + n ≡ length text = omega (arith, length-map text f, r.there.within) in
+    let long : n ≤ length (rest text at) = omega (arith, length-take n (drop at text), length-drop at text) in
+    let all : rest text at ≡ take n (rest text at) = sym (take_all n (rest text at) (omega (arith, length-take n (drop at text)))) in
+    rw whole at (over_chunk f text n long all r steps)
+
+-- One number more of a part.
+due_over_more : (numbers : List ℕ) (n : ℕ) (due : Led) → due_over (numbers ++ n ∷ []) due ≡ due_after n (due_over numbers due)
+due_over_more [] n due = refl
+due_over_more (m ∷ numbers) n due = due_over_more numbers n (due_after m due)
+
+pub over_more :
+    {X : Type 0} (f : X → ℕ) (items : List X) (k : ℕ) (item : X) {word middle next : ℕ} → k < length items → item ≡ get_or items k item →
+    StepsOver word (map f (take k items)) middle → StepsTo middle (f item) next → StepsOver word (map f (take (k + 1) items)) next
+over_more f items k item h is over steps due s =
+    rw (map_more f items k item h, ← is, due_over_more (map f (take k items)) (f item) due) (steps _ (over due s))
 
 pub reached : {text : List ℕ} {from at word : ℕ} → Passes text from at → word % 64 ≡ 0 → Reached text from at word
 reached p is = record { start = _; there = begun p is }
@@ -263,11 +320,3 @@ later {text} {from} {at} {word} {begun} p r is = rw is (go (eqb (word % 64) 0) r
     go : (b : Bool) → eqb (word % 64) 0 ≡ b → Passes text from (if b then at else begun)
     go true e = passed r.there (eqb-true (word % 64) 0 e)
     go false e = p
-
--- At the end of a text, it is one where the machine is between sequences.
-pub told : {text : List ℕ} {from at word : ℕ} → Reached text from at word → length text ≤ at → eqb (word % 64) 0 ≡ is_text (text_from text from)
-told {text} {from} {at} {word} r ended = go (eqb (word % 64) 0) refl
-  where
-    go : (b : Bool) → eqb (word % 64) 0 ≡ b → b ≡ is_text (text_from text from)
-    go true e = ap is_text (sym ((passed r.there (eqb-true (word % 64) 0 e)).alike ∙ ends text at ended))
-    go false e = ap is_text (cut_off r.there (eqb-false (word % 64) 0 e) ended)

@@ -68,6 +68,14 @@ due_after number not_a_lead = not_a_lead
 abbrev pub StepsTo : (word number next : ℕ) → Type 0
 StepsTo word number next = (due : Led) → Stands word due → Stands next (due_after number due)
 
+-- The same over numbers in turn.
+abbrev pub due_over : (numbers : List ℕ) → Led → Led
+due_over [] due = due
+due_over (n ∷ numbers) due = due_over numbers (due_after n due)
+
+abbrev pub StepsOver : (word : ℕ) (numbers : List ℕ) (next : ℕ) → Type 0
+StepsOver word numbers next = (due : Led) → Stands word due → Stands next (due_over numbers due)
+
 -- From a place between sequences the machine has come to another one; the sequence begun there started at `start`.
 pub record At (text : List ℕ) (from at start word : ℕ) : Type 0 where
   pub onward : from ≤ at

@@ -1,27 +1,28 @@
 // Runs of ASCII, many bytes or numbers at a time.
-ghost use Rattle.std.specs.Prelude.{◌≡◌, true, ◌+◌, ◌≤◌, length};
-ghost use Rattle.text.specs.Sequences.{Passes};
+ghost use Rattle.std.specs.Prelude.{◌≡◌, true, ◌≤◌, length, map};
+ghost use Rattle.text.specs.Sequences.{AreAscii, Passes};
 
-// The place after the ASCII that a text starts with, byte by byte after whole eights.
-pub fn past_ascii(text: &[u8]) -> usize
-    ensures { Passes text.now 0 result }
+use crate::items::Item;
+
+// The place after the ASCII that a text starts with, item by item after whole eights.
+pub fn past_ascii<T: Item>(text: &[T]) -> usize
+    ensures { Passes (map T.number text.now) 0 result }
 {
-    let mut at = past_eights(text);
-    while at < text.len() {
-        if 0x80 <= text[at] {
+    for at in past_eights(text)..text.len() {
+        if 0x80 <= text[at].byte() {
             return at;
         }
-        at += 1;
     }
-    at
+    text.len()
 }
 
-fn past_eights(text: &[u8]) -> usize
-    ensures { Passes text.now 0 result }
+// Not a loop over chunks: blocks are passed in between.
+fn past_eights<T: Item>(text: &[T]) -> usize
+    ensures { Passes (map T.number text.now) 0 result }
 {
     let mut at = 0;
-    while 8 <= text.len() - at {
-        if !eight_ascii(text, at) {
+    while let Some(eight) = text[at..].get(..8) {
+        if !T::are_ascii(eight) {
             return at;
         }
         at = past_blocks(text, at + 8);
@@ -29,14 +30,16 @@ fn past_eights(text: &[u8]) -> usize
     at
 }
 
-// Blocks of 32 are tried only after eight: most runs of text that is not all ASCII are short.
-pub fn past_blocks(text: &[u8], from: usize) -> usize
+// Blocks of 32 are tried only after eight: most runs of text that is not all ASCII are short. Inlined, since a call there costs as much as
+// an eight.
+#[inline(always)]
+pub fn past_blocks<T: Item>(text: &[T], from: usize) -> usize
     requires { from ≤ length text.now }
-    ensures { Passes text.now from result }
+    ensures { Passes (map T.number text.now) from result }
 {
     let mut at = from;
-    while 32 <= text.len() - at {
-        if !block_ascii(text, at) {
+    for block in text[from..].chunks_exact(32) {
+        if !block_ascii(block) {
             return at;
         }
         at += 32;
@@ -44,47 +47,12 @@ pub fn past_blocks(text: &[u8], from: usize) -> usize
     at
 }
 
-fn block_ascii(text: &[u8], at: usize) -> bool
-    requires { at + 32 ≤ length text.now }
-    ensures { result ≡ true → Passes text.now at (at + 32) }
+// Without a branch; by `chunks_exact(8)` it would need a loop and a fact of what is left.
+fn block_ascii<T: Item>(block: &[T]) -> bool
+    requires { length block.now ≡ 32 }
+    ensures { result ≡ true → AreAscii (map T.number block.now) }
 {
-    let lower = eight_ascii(text, at) & eight_ascii(text, at + 8);
-    let upper = eight_ascii(text, at + 16) & eight_ascii(text, at + 24);
+    let lower = T::are_ascii(&block[..8]) & T::are_ascii(&block[8..16]);
+    let upper = T::are_ascii(&block[16..24]) & T::are_ascii(&block[24..]);
     lower & upper
-}
-
-// Eight bytes are ASCII where none has its highest bit.
-pub fn eight_ascii(text: &[u8], at: usize) -> bool
-    requires { at + 8 ≤ length text.now }
-    ensures { result ≡ true → Passes text.now at (at + 8) }
-{
-    words::load64(text, at) & 0x8080808080808080 == 0
-}
-
-// The same over numbers.
-pub fn past_ascii_numbers(numbers: &[u64]) -> usize
-    ensures { Passes numbers.now 0 result }
-{
-    let mut at = past_sixteens(numbers);
-    while at < numbers.len() {
-        if 0x80 <= numbers[at] {
-            return at;
-        }
-        at += 1;
-    }
-    at
-}
-
-fn past_sixteens(numbers: &[u64]) -> usize
-    ensures { Passes numbers.now 0 result }
-{
-    let mut at = 0;
-    while 16 <= numbers.len() - at {
-        let end = at + 16;
-        if 0x80 <= words::value_bits(&numbers[at..end]) {
-            return at;
-        }
-        at = end;
-    }
-    at
 }

@@ -1,5 +1,6 @@
 -- A struct or an array without parts, as the value walk takes it, and what the scalars ask for.
 -- Assumes nothing.
+use Rattle.std.specs.Prelude.{Ok}
 use mathlib.Core.Bool.{Bool, true, false, ◌||◌}
 use mathlib.Core.List.{List}
 use mathlib.Core.Path.{◌≡◌, refl, sym, ◌∙◌}
@@ -20,8 +21,7 @@ use Rattle.layout.proofs.ByKind.{size_array, size_string, number_width, width_po
 use Rattle.nesting.proofs.NoParts.{array_left, struct_empty, array_numbers, size_empty}
 use Rattle.layout.proofs.Readiness.{row_few, ready_at}
 use Rattle.walk_leaves.specs.declared.cursor.Cursor.{Cursor}
-use Rattle.walk_leaves.specs.declared.cursor.Walked.{Walked}
-use Rattle.walk_leaves.specs.declared.cursor.Walked.TheVariants.{On}
+use Rattle.walk_leaves.specs.Doing.{Walked}
 use Rattle.walk_leaves.specs.Doing.{message, Ask}
 use Rattle.walk_leaves.specs.Parts.{numbers_at, DidValues, DidNeither}
 use Rattle.walk.specs.Walking.{ValueDid}
@@ -68,9 +68,9 @@ module _ {t : TypeTable} {sizes alignments : List ℕ} {depth row : ℕ} (ready 
   array_ask ask = numbers_ask element refl numbered w b (elements_ask ask)
 
   pub array_done : (bytes : List ℕ) (handles at : ℕ) (v v' o : List ℕ) (c d : Cursor) → Ask (length bytes) handles (size_of t row) at c
-      → DidValues bytes v v' b at c (On d) (numbers_at width b) → ValueDid t bytes handles depth v v' o o at c row (On d)
+      → DidValues bytes v v' b at c (Ok d) (numbers_at width b) → ValueDid t bytes handles depth v v' o o at c row (Ok d)
   array_done bytes handles at v v' o c d ask did =
-      value_array t bytes handles depth row at v v' o o c (On d) e q f g below (numbers_done element refl numbered w bytes handles at b v v' o c d (elements_ask ask) did)
+      value_array t bytes handles depth row at v v' o o c (Ok d) e q f g below (numbers_done element refl numbered w bytes handles at b v v' o c d (elements_ask ask) did)
 
 -- ---- what the scalars ask for
 

@@ -1,5 +1,6 @@
 -- Runs of numbers: the elements of a vector or of an array, where they are numbers.
 -- Assumes nothing.
+use Rattle.std.specs.Prelude.{Ok}
 use mathlib.Core.Bool.{true}
 use mathlib.Core.List.{List}
 use mathlib.Core.Path.{◌≡◌, sym, ◌∙◌}
@@ -14,7 +15,6 @@ use Rattle.rules.specs.Sound.{width_allowed}
 use Rattle.layout.specs.Ready.{Ready}
 use Rattle.layout.proofs.ByKind.{number_width, size_number, width_positive}
 use Rattle.walk_leaves.specs.declared.cursor.Cursor.{Cursor}
-use Rattle.walk_leaves.specs.declared.cursor.Walked.TheVariants.{On}
 use Rattle.walk_leaves.specs.Doing.{message, Ask}
 use Rattle.walk_leaves.specs.Parts.{numbers_at, DidValues}
 use Rattle.walk.specs.Walking.{ElementsDid}
@@ -36,7 +36,7 @@ module _ {t : TypeTable} {sizes alignments : List ℕ} {depth row : ℕ} (ready 
       (allowed, omega (arith, a.inside, a.short), omega (arith, a.small))
 
   pub numbers_done : (bytes : List ℕ) (handles at count : ℕ) (v v' o : List ℕ) (c d : Cursor) → Ask (length bytes) handles (count * size_of t row) at c
-      → DidValues bytes v v' count at c (On d) (numbers_at width count) → ElementsDid t bytes handles depth v v' o o at c row count (On d)
+      → DidValues bytes v v' count at c (Ok d) (numbers_at width count) → ElementsDid t bytes handles depth v v' o o at c row count (Ok d)
   unfolding numbers_at
   numbers_done bytes handles at count v v' o c d a did =
       let m = message t bytes handles in

@@ -1,5 +1,6 @@
 -- A struct of one member: the member's value, and the fill after it up to the struct's size.
 -- Assumes nothing.
+use Rattle.std.specs.Prelude.{Err, Ok}
 use mathlib.Core.Bool.{Bool, true, ◌&&◌}
 use mathlib.Core.List.{List, [], ◌∷◌}
 use mathlib.Core.Path.{◌≡◌, refl, sym, ap, ◌∙◌}
@@ -25,8 +26,7 @@ use Rattle.layout.proofs.Readiness.{row_size, ready_at}
 use Rattle.nesting.proofs.Work.{WorkLeft, item_on, item_refused, work_end}
 use Rattle.nesting.proofs.Starts.{start_of, struct_fields_lem, members_below, start_size}
 use Rattle.walk_leaves.specs.declared.cursor.Cursor.{Cursor}
-use Rattle.walk_leaves.specs.declared.cursor.Walked.{Walked}
-use Rattle.walk_leaves.specs.declared.cursor.Walked.TheVariants.{On, Refused}
+use Rattle.walk_leaves.specs.Doing.{Walked}
 use Rattle.walk_leaves.specs.Doing.{message, Did, Ask}
 use Rattle.walk_leaves.specs.Parts.{DidNeither}
 use Rattle.walk.specs.Walking.{walk_row, ValueDid}
@@ -115,10 +115,10 @@ module _ {t : TypeTable} {sizes alignments : List ℕ} {depth row : ℕ} (ready 
     start = rw (← (items at)) (row_start (rows_walked t bytes handles depth ready.sound) row ready.in_use parts ask)
 
     module _ {x : Walked} (did : ValueDid t bytes handles depth v v' o o' at c part x) where
-      pub member_refused : {f : Fault} → x ≡ Refused f → ValueDid t bytes handles depth v v' o o' at c row (Refused f)
+      pub member_refused : {f : Fault} → x ≡ Err f → ValueDid t bytes handles depth v v' o o' at c row (Err f)
       member_refused same = item_refused start (rw same at did)
 
-      pub member_filled : {d : Cursor} → x ≡ On d → {size whole : ℕ} → size ≡ get_or sizes part 0 → whole ≡ get_or sizes row 0
+      pub member_filled : {d : Cursor} → x ≡ Ok d → {size whole : ℕ} → size ≡ get_or sizes part 0 → whole ≡ get_or sizes row 0
           → (r : Walked) → DidNeither bytes 0 (at + size) d r (λ m. D.fill m ((at + whole) - (at + size))) → ValueDid t bytes handles depth v v' o o' at c row r
       member_filled {d} same {size} {whole} s w r filled =
           end r (did_more (size_of t row - size_of t part) (omega arith) (rw (fill, ← (row_size ready part part_used s)) at (filled t v' o' handles left.rest.asks.free left.rest.asks.held)))
@@ -131,5 +131,5 @@ module _ {t : TypeTable} {sizes alignments : List ℕ} {depth row : ℕ} (ready 
 
           end : (r : Walked) → Did (length bytes) handles (size_of t row - size_of t part) v' v' o' o' d r (D.fill (message t bytes handles) (size_of t row - size_of t part) (at + size_of t part) d.next d.handles)
               → ValueDid t bytes handles depth v v' o o' at c row r
-          end (On e) q = work_end (item_on left q)
-          end (Refused f) q = item_refused left q
+          end (Ok e) q = work_end (item_on left q)
+          end (Err f) q = item_refused left q

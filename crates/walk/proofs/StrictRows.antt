@@ -15,7 +15,7 @@ use Rattle.layout.specs.Ready.{Ready}
 use Rattle.strict.specs.Strict.{StrictRow}
 use Rattle.strict.proofs.Rows.{strict_row, strict_size}
 use Rattle.walk_leaves.specs.declared.cursor.Cursor.{Cursor}
-use Rattle.walk_leaves.specs.declared.cursor.Walked.{Walked}
+use Rattle.walk_leaves.specs.Doing.{Walked}
 use Rattle.walk_leaves.specs.Doing.{message, Ask}
 use Rattle.walk_leaves.specs.Parts.{strict_at}
 use Rattle.walk_leaves.specs.Planning.{DidAsked}

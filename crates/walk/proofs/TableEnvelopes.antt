@@ -1,5 +1,6 @@
 -- A table's envelopes in turn: absent ones, and those with content.
 -- Assumes nothing.
+use Rattle.std.specs.Prelude.{Err, Ok, Option, Result}
 use mathlib.Core.List.{List}
 use mathlib.Core.Path.{◌≡◌, refl, sym, ap, ◌∙◌}
 use Prim.Native.Nat.{ℕ, ◌+◌, ◌-◌, ◌*◌, ◌≤◌, ◌<◌}
@@ -15,13 +16,11 @@ use Rattle.rules.specs.TypeTable.{TypeTable, a_at, b_at}
 use Rattle.rules.specs.Decode as D
 use Rattle.rules.specs.Envelope.{content_of_eight_bytes}
 use Rattle.rules.specs.Walk as W
-use Rattle.ordinals.specs.declared.Ordinal.{Ordinal}
 use Rattle.ordinals.specs.Ordinals.{ordinal_is, halved}
 use Rattle.ordinals.proofs.Members.{MembersRise, ordinal_content}
 use Rattle.nesting.proofs.Runs.{RunLeft, run_start, run_asks, run_on, run_refused, run_end}
 use Rattle.walk_leaves.specs.declared.cursor.Cursor.{Cursor}
-use Rattle.walk_leaves.specs.declared.cursor.Walked.{Walked}
-use Rattle.walk_leaves.specs.declared.cursor.Walked.TheVariants.{On, Refused}
+use Rattle.walk_leaves.specs.Doing.{Walked}
 use Rattle.walk_leaves.specs.Doing.{gave_one, Did, Ask}
 use Rattle.walk.specs.Walking.{here, envelope_at, ContentDid, EnvelopesDid}
 use Rattle.walk_leaves.proofs.Steps.{did_stop, did_one}
@@ -43,7 +42,7 @@ module _ (t : TypeTable) (bytes : List ℕ) (handles depth row count at : ℕ) (
       rw (r, p) (run_start 1 count at refl a)
 
   module _ {v' o' : List ℕ} {d : Cursor} {i : ℕ} (r : EnvelopesLeft t bytes handles depth row count at v v' o o' c d i) where
-    pub envelopes_end : count ≤ i → EnvelopesDid t bytes handles depth v v' o o' at c row count (On d)
+    pub envelopes_end : count ≤ i → EnvelopesDid t bytes handles depth v v' o o' at c row count (Ok d)
     envelopes_end h = run_end r (omega arith)
 
     module _ (h : i < count) where
@@ -54,7 +53,7 @@ module _ (t : TypeTable) (bytes : List ℕ) (handles depth row count at : ℕ) (
       content_asks g = ask_gave 7 envelope_asks g (omega arith)
 
       -- One is done.
-      turn : {v'' o'' : List ℕ} {e : Cursor} → Did (length bytes) handles 8 v' v'' o' o'' d (On e) (envelope_at t bytes handles depth row count (i + 1) (at + i * 8) d.next d.handles)
+      turn : {v'' o'' : List ℕ} {e : Cursor} → Did (length bytes) handles 8 v' v'' o' o'' d (Ok e) (envelope_at t bytes handles depth row count (i + 1) (at + i * 8) d.next d.handles)
           → EnvelopesLeft t bytes handles depth row count at v v'' o o'' c e (i + 1)
       turn did =
           let s : count - i - 1 ≡ count - (i + 1) = omega arith in
@@ -62,7 +61,7 @@ module _ (t : TypeTable) (bytes : List ℕ) (handles depth row count at : ℕ) (
           rw (← s, ← p) (run_on r (omega arith) did)
 
       module _ {loaded : ℕ} (l : loaded ≡ word bytes (at + i * 8) 8) where
-        pub last_absent : {w : Walked} → loaded ≡ 0 → i + 1 ≡ count → w ≡ Refused (fault last_envelope_zero (Byte (at + i * 8)))
+        pub last_absent : {w : Walked} → loaded ≡ 0 → i + 1 ≡ count → w ≡ Err (fault last_envelope_zero (Byte (at + i * 8)))
             → EnvelopesDid t bytes handles depth v v' o o' at c row count w
         unfolding D.optional_envelope
         last_absent z q y =
@@ -76,7 +75,7 @@ module _ (t : TypeTable) (bytes : List ℕ) (handles depth row count at : ℕ) (
             let a = envelope_asks in
             rw (g.0, g.1) (turn (rw (zero_word bytes (at + i * 8) 8 a.inside (sym l ∙ z), ne_eqb (i + 1) count q) (did_one 0 (omega arith) a.free a.held)))
 
-        module _ {first known : ℕ} (what : Ordinal) {e : Cursor} {v₁ v'' o'' : List ℕ} {w : Walked} (z : loaded ≡ 0 → ⊥) (f : first ≡ a_at t row) (k : known ≡ b_at t row)
+        module _ {first known : ℕ} (what : Option ℕ) {e : Cursor} {v₁ v'' o'' : List ℕ} {w : Walked} (z : loaded ≡ 0 → ⊥) (f : first ≡ a_at t row) (k : known ≡ b_at t row)
             (m : MembersRise t first known) (found : ordinal_is what ≡ halved t.members (i + 1) first known) (g : Gave v' v₁ d e 1) (did : ContentDid t bytes handles depth v₁ v'' o' o'' (at + i * 8) e row what w) where
           present : Did (length bytes) handles 8 v' v'' o' o'' d w (envelope_at t bytes handles depth row count (i + 1) (at + i * 8) d.next d.handles)
           unfolding D.optional_envelope
@@ -85,10 +84,10 @@ module _ (t : TypeTable) (bytes : List ℕ) (handles depth row count at : ℕ) (
               rw (nonzero_word bytes (at + i * 8) 8 a.inside (λ s. z (l ∙ s)), ← f, ← k, ← ordinal_content m (i + 1) what found)
               (did_gave 8 1 (λ n u. content_of_eight_bytes (here t bytes handles depth) (W.levels (here t bytes handles depth) depth) row (ordinal_is what) (at + i * 8) n u) g did (omega arith))
 
-          pub one_present : {f : Cursor} → w ≡ On f → EnvelopesLeft t bytes handles depth row count at v v'' o o'' c f (i + 1)
+          pub one_present : {f : Cursor} → w ≡ Ok f → EnvelopesLeft t bytes handles depth row count at v v'' o o'' c f (i + 1)
           one_present y = turn (rw y at present)
 
-          pub one_refused : {f : Fault} → w ≡ Refused f → EnvelopesDid t bytes handles depth v v'' o o'' at c row count (Refused f)
+          pub one_refused : {f : Fault} → w ≡ Err f → EnvelopesDid t bytes handles depth v v'' o o'' at c row count (Err f)
           one_refused y = run_refused r (omega arith) (rw y at present)
 
           -- The lent lists are as long as they were.

@@ -1,5 +1,6 @@
 -- The walk's loop over structs and arrays within one another: what it keeps, and that each turn keeps it.
 -- Assumes nothing.
+use Rattle.std.specs.Prelude.{Err, Ok}
 use mathlib.Core.Bool.{Bool, true, false}
 use mathlib.Core.List.{List}
 use mathlib.Core.Path.{◌≡◌, refl, ap, ◌∙◌}
@@ -26,8 +27,7 @@ use Rattle.plans.proofs.Rows.{row_start, rows_open}
 use Rattle.nesting.proofs.Turns as Nested
 use Rattle.nesting.proofs.Work.{WorkLeft, item_asks, item_on, item_refused, work_end}
 use Rattle.walk_leaves.specs.declared.cursor.Cursor.{Cursor}
-use Rattle.walk_leaves.specs.declared.cursor.Walked.{Walked}
-use Rattle.walk_leaves.specs.declared.cursor.Walked.TheVariants.{On, Refused}
+use Rattle.walk_leaves.specs.Doing.{Walked}
 use Rattle.walk_leaves.specs.Doing.{message, values_of, Did, Ask}
 use Rattle.walk_leaves.specs.Parts.{DidNeither}
 use Rattle.walk.specs.Walking.{walk_row, ValueDid}
@@ -79,7 +79,7 @@ module _ {t : TypeTable} {sizes alignments bytes : List ℕ} {handles depth top 
       pub turn_fill : {next : ℕ} → step ≡ Fill next → (place ≤ next) × (next ≤ 65536)
       turn_fill q = let fill = Nested.turn_fill ready short (is q) w.going in (fill.0, fill.1)
 
-      pub turn_filled : {next : ℕ} → step ≡ Fill next → {x : Walked} {d' : Cursor} → DidNeither bytes 0 place d x (λ m. D.fill m (next - place)) → x ≡ On d'
+      pub turn_filled : {next : ℕ} → step ≡ Fill next → {x : Walked} {d' : Cursor} → DidNeither bytes 0 place d x (λ m. D.fill m (next - place)) → x ≡ Ok d'
           → Walking t bytes handles depth top at v o c none alignments v' o' kept around (advanced level) false next d' × (fuel t.rows (advanced level) false next around < fuel t.rows level due place around)
       turn_filled {next} q {d' = d'} did same =
           let fill = Nested.turn_fill ready short (is q) w.going in
@@ -88,8 +88,8 @@ module _ {t : TypeTable} {sizes alignments bytes : List ℕ} {handles depth top 
           let turn = Nested.turn_filled ready short (is q) w.going (ValueLeft t bytes handles depth top at v o c v' o' d') (rw on at left) in
           (record { lengths = w.lengths; going = turn.0 }, turn.1)
 
-      pub turn_fill_refused : {next : ℕ} → step ≡ Fill next → {x : Walked} {f : Fault} → DidNeither bytes 0 place d x (λ m. D.fill m (next - place)) → x ≡ Refused f
-          → ValueDid t bytes handles depth v v' o o' at c top (Refused f)
+      pub turn_fill_refused : {next : ℕ} → step ≡ Fill next → {x : Walked} {f : Fault} → DidNeither bytes 0 place d x (λ m. D.fill m (next - place)) → x ≡ Err f
+          → ValueDid t bytes handles depth v v' o o' at c top (Err f)
       turn_fill_refused {next} q did same = item_refused (Nested.turn_fill ready short (is q) w.going).2 (filled next did same)
 
       pub turn_into : {part : ℕ} → step ≡ Into part
@@ -104,11 +104,11 @@ module _ {t : TypeTable} {sizes alignments bytes : List ℕ} {handles depth top 
           let call = Nested.turn_call ready short (is q) w.going in
           (call.0, item_asks call.2, call.1)
 
-      pub turn_called : {part : ℕ} → step ≡ Call part → {v'' o'' : List ℕ} {x : Walked} {d' : Cursor} {size : ℕ} → ValueDid t bytes handles depth v' v'' o' o'' place d part x → x ≡ On d' → size ≡ get_or sizes part 0
+      pub turn_called : {part : ℕ} → step ≡ Call part → {v'' o'' : List ℕ} {x : Walked} {d' : Cursor} {size : ℕ} → ValueDid t bytes handles depth v' v'' o' o'' place d part x → x ≡ Ok d' → size ≡ get_or sizes part 0
           → Walking t bytes handles depth top at v o c none alignments v'' o'' kept around level true (place + size) d' × (fuel t.rows level true (place + size) around < fuel t.rows level due place around)
       turn_called {part} q {v''} {o''} {d' = d'} did same size =
           let call = Nested.turn_call ready short (is q) w.going in
-          let on : ValueDid t bytes handles depth v' v'' o' o'' place d part (On d') = rw same at did in
+          let on : ValueDid t bytes handles depth v' v'' o' o'' place d part (Ok d') = rw same at did in
           let turn = Nested.turn_called ready short (is q) w.going size (ValueLeft t bytes handles depth top at v o c v'' o'' d') (bounded t bytes handles depth top at v o c v'' o'' d') (item_on call.2 on) in
           let walked = walk_row t bytes handles depth part place d.next d.handles in (
             record {
@@ -118,8 +118,8 @@ module _ {t : TypeTable} {sizes alignments bytes : List ℕ} {handles depth top 
             turn.1,
           )
 
-      pub turn_call_refused : {part : ℕ} → step ≡ Call part → {v'' o'' : List ℕ} {x : Walked} {f : Fault} → ValueDid t bytes handles depth v' v'' o' o'' place d part x → x ≡ Refused f
-          → ValueDid t bytes handles depth v v'' o o'' at c top (Refused f)
+      pub turn_call_refused : {part : ℕ} → step ≡ Call part → {v'' o'' : List ℕ} {x : Walked} {f : Fault} → ValueDid t bytes handles depth v' v'' o' o'' place d part x → x ≡ Err f
+          → ValueDid t bytes handles depth v v'' o o'' at c top (Err f)
       turn_call_refused q did same = item_refused (Nested.turn_call ready short (is q) w.going).2 (rw same at did)
 
       pub turn_out : step ≡ Out
@@ -129,5 +129,5 @@ module _ {t : TypeTable} {sizes alignments bytes : List ℕ} {handles depth top 
           let turn = Nested.turn_out ready short (is q) w.going in
           (record { lengths = w.lengths; going = turn.0 }, turn.1, turn.2)
 
-      pub turn_done : step ≡ Done → ValueDid t bytes handles depth v v' o o' at c top (On d)
+      pub turn_done : step ≡ Done → ValueDid t bytes handles depth v v' o o' at c top (Ok d)
       turn_done q = work_end (Nested.turn_done ready short (is q) w.going)

@@ -12,7 +12,7 @@ use Rattle.rules.specs.Envelope.{decode_word}
 use Rattle.rules.specs.Walk as W
 use Rattle.layout.proofs.ByKind.{size_bool, size_number, size_handle, size_array, size_string}
 use Rattle.walk_leaves.specs.declared.cursor.Cursor.{Cursor}
-use Rattle.walk_leaves.specs.declared.cursor.Walked.{Walked}
+use Rattle.walk_leaves.specs.Doing.{Walked}
 use Rattle.walk_leaves.specs.Doing.{message, Ask}
 use Rattle.walk_leaves.specs.Parts.{bool_at, handle_at, DidValues, DidHandles}
 use Rattle.walk_records.specs.Promises.{StringDid}

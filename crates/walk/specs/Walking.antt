@@ -1,16 +1,15 @@
 -- What the functions of cycle.rt promise.
 -- Assumes nothing.
-use Rattle.std.specs.Prelude.{List, ℕ, ◌*◌, eqb, length}
+use Rattle.std.specs.Prelude.{List, ℕ, ◌*◌, eqb, length, Option, Result}
 use Rattle.rules.specs.TypeTable.{TypeTable, a_at, b_at, content_of}
 use Rattle.rules.specs.Sizes.{size_of}
 use Rattle.rules.specs.Decode as D
 use Rattle.rules.specs.Decode.{Message, Decoder}
 use Rattle.rules.specs.Envelope.{content_of_eight_bytes}
 use Rattle.rules.specs.Walk as W
-use Rattle.ordinals.specs.declared.Ordinal.{Ordinal}
 use Rattle.ordinals.specs.Ordinals.{ordinal_is}
 use Rattle.walk_leaves.specs.declared.cursor.Cursor.{Cursor}
-use Rattle.walk_leaves.specs.declared.cursor.Walked.{Walked}
+use Rattle.walk_leaves.specs.Doing.{Walked}
 use Rattle.walk_leaves.specs.Doing.{message, Did}
 
 module _ (t : TypeTable) (bytes : List ℕ) (handles depth : ℕ) where
@@ -40,7 +39,7 @@ module _ (t : TypeTable) (bytes : List ℕ) (handles depth : ℕ) where
     EnvelopesDid row count r =
         Did (length bytes) handles (count * 8) values values' objects objects' c r (D.elements 8 (envelope_at row count) 1 count at c.next c.handles)
 
-    abbrev pub ContentDid : (row : ℕ) → Ordinal → Walked → Type 0
+    abbrev pub ContentDid : (row : ℕ) → Option ℕ → Walked → Type 0
     ContentDid row what r =
         Did (length bytes) handles 7 values values' objects objects' c r
         (content_of_eight_bytes here (W.levels here depth) row (ordinal_is what) at c.next c.handles)

@@ -1,32 +1,30 @@
 // Value walk, element walk and envelope walk: they call each other until the depth is spent. Rows of smaller numbers stand
 // in line; whatever stands out of line is one level down.
 ghost use Rattle.std.specs.Prelude.{true, ◌≡◌, ◌*◌, ◌<◌, length};
-ghost use Rattle.rules.specs.TypeTable.{type_table, kind_at};
+ghost use Rattle.rules.specs.TypeTable.{kind_at};
 ghost use Rattle.rules.specs.Sizes.{size_of};
 ghost use Rattle.walk_leaves.specs.Doing.{Ask, cursor_at};
 ghost use Rattle.nesting.specs.Nesting.{has_parts};
 ghost use Rattle.ordinals.specs.Ordinals.{OrdinalFits};
-ghost use Rattle.layout.specs.Ready.{Ready, Outside};
+ghost use Rattle.layout.specs.Ready.{Ready, table_in, Outside};
 ghost use Rattle.walk.specs.Walking.{ValueDid, ElementsDid, EnvelopesDid, ContentDid};
 
+use layout::laid::Laid;
 use nesting::{Level, NESTED, Step};
-use ordinals::Ordinal;
+use rules::{Fault, Refusal};
 use walk_leaves::claims::fill_at;
-use walk_leaves::cursor::{Cursor, Walked, gave, passed_on, refused};
+use walk_leaves::cursor::{Cursor, gave, refused};
 use walk_leaves::planned::planned;
 use walk_leaves::scalars::{boolean, handle, number, numbers};
 use walk_leaves::strict_rows::strict_values;
 use walk_records::envelopes::{Member, known_opened, sealed, union_member, unknown_content};
 use walk_records::records::{Opened, box_opened, string, table_opened, vector_opened};
+use words::Word;
 
 // The value of a row at a place. The cursor comes as four numbers: as a struct it would go through memory at each level.
 #[cycle(composite_content_elements_envelopes_out_of_line_value)]
 pub fn value(
-    rows: &[u32],
-    members: &[u32],
-    entries: &[u64],
-    sizes: &[u32; 256],
-    alignments: &[u32; 256],
+    laid: &Laid<'_>,
     bytes: &[u8],
     held: usize,
     values: &mut [u64],
@@ -38,11 +36,12 @@ pub fn value(
     handles: usize,
     given: usize,
     listed: usize,
-) -> Walked
-    requires { Ready (type_table rows.now members.now entries.now) sizes.now alignments.now depth row
-        × Ask (length bytes.now) held (size_of (type_table rows.now members.now entries.now) row) at (cursor_at next handles given listed) }
-    ensures { ValueDid (type_table rows.now members.now entries.now) bytes.now held depth values.old values.new objects.old objects.new at (cursor_at next handles given listed) row result }
+) -> Result<Cursor, Fault>
+    requires { Ready (table_in laid.now) laid.now.sizes.now laid.now.alignments.now depth row
+        × Ask (length bytes.now) held (size_of (table_in laid.now) row) at (cursor_at next handles given listed) }
+    ensures { ValueDid (table_in laid.now) bytes.now held depth values.old values.new objects.old objects.new at (cursor_at next handles given listed) row result }
 {
+    let Laid { rows, entries, .. } = *laid;
     let c = Cursor {
         next,
         handles,
@@ -62,10 +61,7 @@ pub fn value(
     }
     if (kind == 4) | (kind == 7) {
         if nesting::has_parts(rows, row) {
-            return composite(
-                rows, members, entries, sizes, alignments, bytes, held, values, objects, depth,
-                row, at, c,
-            );
+            return composite(laid, bytes, held, values, objects, depth, row, at, c);
         }
         // the one byte of an empty struct is fill
         if kind == 7 {
@@ -73,7 +69,7 @@ pub fn value(
         }
         let width = table::a_at(rows, a as usize);
         let count = table::b_at(rows, row) as usize;
-        return Walked::On(numbers(bytes, values, width, count, at, c));
+        return Ok(numbers(bytes, values, width, count, at, c));
     }
     if kind == 6 {
         let largest = table::b_at(rows, row);
@@ -83,19 +79,13 @@ pub fn value(
     if (kind == 11) | (kind == 12) {
         return strict_values(rows, entries, bytes, values, row, 1, at, c);
     }
-    out_of_line(
-        rows, members, entries, sizes, alignments, bytes, held, values, objects, depth, row, at, c,
-    )
+    out_of_line(laid, bytes, held, values, objects, depth, row, at, c)
 }
 
 // As many values of a row as there are, one after the other.
 #[cycle(composite_content_elements_envelopes_out_of_line_value)]
 fn elements(
-    rows: &[u32],
-    members: &[u32],
-    entries: &[u64],
-    sizes: &[u32; 256],
-    alignments: &[u32; 256],
+    laid: &Laid<'_>,
     bytes: &[u8],
     held: usize,
     values: &mut [u64],
@@ -105,52 +95,45 @@ fn elements(
     count: usize,
     at: usize,
     c: Cursor,
-) -> Walked
-    requires { Ready (type_table rows.now members.now entries.now) sizes.now alignments.now depth row × Ask (length bytes.now) held (count * size_of (type_table rows.now members.now entries.now) row) at c }
-    ensures { ElementsDid (type_table rows.now members.now entries.now) bytes.now held depth values.old values.new objects.old objects.new at c row count result }
+) -> Result<Cursor, Fault>
+    requires { Ready (table_in laid.now) laid.now.sizes.now laid.now.alignments.now depth row × Ask (length bytes.now) held (count * size_of (table_in laid.now) row) at c }
+    ensures { ElementsDid (table_in laid.now) bytes.now held depth values.old values.new objects.old objects.new at c row count result }
 {
+    let Laid {
+        rows,
+        members,
+        entries,
+        sizes,
+        alignments,
+    } = *laid;
     let kind = table::kind_at(rows, row);
     if kind == 2 {
         let width = table::a_at(rows, row);
-        return Walked::On(numbers(bytes, values, width, count, at, c));
+        return Ok(numbers(bytes, values, width, count, at, c));
     }
     if (kind == 11) | (kind == 12) {
         return strict_values(rows, entries, bytes, values, row, count, at, c);
     }
-    let size = words::number_at(sizes, row) as usize;
-    let plan = plans::plan_of(rows, members, alignments, row);
-    if 0 < plan.count {
-        return planned(bytes, values, plan, size, count, at, c);
+    let size = words::item_at(sizes, row) as usize;
+    if let Some(plan) = plans::plan_of(rows, members, alignments, row) {
+        return planned(bytes, values, plan.parts(), size, count, at, c);
     }
     let mut d = c;
     let mut place = at;
-    let mut left = count;
-    while 0 < left {
-        match value(
-            rows, members, entries, sizes, alignments, bytes, held, values, objects, depth, row,
-            place, d.next, d.handles, d.values, d.objects,
-        ) {
-            Walked::On(e) => {
-                d = e;
-            }
-            Walked::Refused(f) => {
-                return Walked::Refused(f);
-            }
-        }
+    for _ in 0..count {
+        d = value(
+            laid, bytes, held, values, objects, depth, row, place, d.next, d.handles, d.values,
+            d.objects,
+        )?;
         place += size;
-        left -= 1;
     }
-    Walked::On(d)
+    Ok(d)
 }
 
 // A struct's members or an array's elements in turn, with the fill after each member.
 #[cycle(composite_content_elements_envelopes_out_of_line_value)]
 fn composite(
-    rows: &[u32],
-    members: &[u32],
-    entries: &[u64],
-    sizes: &[u32; 256],
-    alignments: &[u32; 256],
+    laid: &Laid<'_>,
     bytes: &[u8],
     held: usize,
     values: &mut [u64],
@@ -159,19 +142,25 @@ fn composite(
     row: usize,
     at: usize,
     c: Cursor,
-) -> Walked
-    requires { Ready (type_table rows.now members.now entries.now) sizes.now alignments.now depth row × (has_parts rows.now row ≡ true)
-        × Ask (length bytes.now) held (size_of (type_table rows.now members.now entries.now) row) at c }
-    ensures { ValueDid (type_table rows.now members.now entries.now) bytes.now held depth values.old values.new objects.old objects.new at c row result }
+) -> Result<Cursor, Fault>
+    requires { Ready (table_in laid.now) laid.now.sizes.now laid.now.alignments.now depth row × (has_parts laid.now.rows.now row ≡ true)
+        × Ask (length bytes.now) held (size_of (table_in laid.now) row) at c }
+    ensures { ValueDid (table_in laid.now) bytes.now held depth values.old values.new objects.old objects.new at c row result }
 {
+    let Laid {
+        rows,
+        members,
+        sizes,
+        alignments,
+        ..
+    } = *laid;
     // one of bools and numbers alone goes by a plan, which can be only where its first member is one of them
     let first = table::a_at(rows, row) as usize;
     let part = table::row_of(members, first) as usize;
     if table::kind_at(rows, part) <= 2 {
-        let plan = plans::plan_of(rows, members, alignments, row);
-        if 0 < plan.count {
-            let size = words::number_at(sizes, row) as usize;
-            return planned(bytes, values, plan, size, 1, at, c);
+        if let Some(plan) = plans::plan_of(rows, members, alignments, row) {
+            let size = words::item_at(sizes, row) as usize;
+            return planned(bytes, values, plan.parts(), size, 1, at, c);
         }
     }
     // a struct of one member that has no parts itself: the member, and the fill after it
@@ -179,23 +168,13 @@ fn composite(
         & (table::b_at(rows, row) == 1)
         & !nesting::has_parts(rows, part)
     {
-        match value(
-            rows, members, entries, sizes, alignments, bytes, held, values, objects, depth, part,
-            at, c.next, c.handles, c.values, c.objects,
-        ) {
-            Walked::On(d) => {
-                let stop = at + words::number_at(sizes, part) as usize;
-                return fill_at(
-                    bytes,
-                    stop,
-                    at + words::number_at(sizes, row) as usize - stop,
-                    d,
-                );
-            }
-            Walked::Refused(f) => {
-                return Walked::Refused(f);
-            }
-        }
+        let d = value(
+            laid, bytes, held, values, objects, depth, part, at, c.next, c.handles, c.values,
+            c.objects,
+        )?;
+        let stop = at + words::item_at(sizes, part) as usize;
+        let fill = at + words::item_at(sizes, row) as usize - stop;
+        return fill_at(bytes, stop, fill, d);
     }
     let mut kept = [Level {
         row: 0,
@@ -209,17 +188,12 @@ fn composite(
     let mut d = c;
     loop {
         match nesting::next_step(rows, members, alignments, level, due, place, around) {
-            Step::Fill(next) => match fill_at(bytes, place, next - place, d) {
-                Walked::On(e) => {
-                    d = e;
-                    place = next;
-                    level.done += 1;
-                    due = false;
-                }
-                Walked::Refused(f) => {
-                    return Walked::Refused(f);
-                }
-            },
+            Step::Fill(next) => {
+                d = fill_at(bytes, place, next - place, d)?;
+                place = next;
+                level.done += 1;
+                due = false;
+            }
             Step::Into(part) => {
                 kept[around] = level;
                 around += 1;
@@ -230,19 +204,12 @@ fn composite(
                 };
             }
             Step::Call(part) => {
-                match value(
-                    rows, members, entries, sizes, alignments, bytes, held, values, objects, depth,
-                    part, place, d.next, d.handles, d.values, d.objects,
-                ) {
-                    Walked::On(e) => {
-                        d = e;
-                        place += words::number_at(sizes, part) as usize;
-                        due = true;
-                    }
-                    Walked::Refused(f) => {
-                        return Walked::Refused(f);
-                    }
-                }
+                d = value(
+                    laid, bytes, held, values, objects, depth, part, place, d.next, d.handles,
+                    d.values, d.objects,
+                )?;
+                place += words::item_at(sizes, part) as usize;
+                due = true;
             }
             Step::Out => {
                 around -= 1;
@@ -250,7 +217,7 @@ fn composite(
                 due = true;
             }
             Step::Done => {
-                return Walked::On(d);
+                return Ok(d);
             }
         }
     }
@@ -259,11 +226,7 @@ fn composite(
 // A value whose record leads out of line: vector, box, table or union.
 #[cycle(composite_content_elements_envelopes_out_of_line_value)]
 fn out_of_line(
-    rows: &[u32],
-    members: &[u32],
-    entries: &[u64],
-    sizes: &[u32; 256],
-    alignments: &[u32; 256],
+    laid: &Laid<'_>,
     bytes: &[u8],
     held: usize,
     values: &mut [u64],
@@ -272,26 +235,27 @@ fn out_of_line(
     row: usize,
     at: usize,
     c: Cursor,
-) -> Walked
-    requires { Ready (type_table rows.now members.now entries.now) sizes.now alignments.now depth row × Outside (kind_at (type_table rows.now members.now entries.now) row)
-        × Ask (length bytes.now) held (size_of (type_table rows.now members.now entries.now) row) at c }
-    ensures { ValueDid (type_table rows.now members.now entries.now) bytes.now held depth values.old values.new objects.old objects.new at c row result }
+) -> Result<Cursor, Fault>
+    requires { Ready (table_in laid.now) laid.now.sizes.now laid.now.alignments.now depth row × Outside (kind_at (table_in laid.now) row)
+        × Ask (length bytes.now) held (size_of (table_in laid.now) row) at c }
+    ensures { ValueDid (table_in laid.now) bytes.now held depth values.old values.new objects.old objects.new at c row result }
 {
+    let Laid {
+        rows,
+        members,
+        sizes,
+        ..
+    } = *laid;
     let kind = table::kind_at(rows, row);
     let a = table::a_at(rows, row) as usize;
     let b = table::b_at(rows, row);
     let form = table::c_at(rows, row);
     if kind == 5 {
-        let size = words::number_at(sizes, a) as usize;
-        return match vector_opened(bytes, values, objects, depth, row, size, b, form, at, c) {
-            Opened::Closed(d) => Walked::On(d),
-            Opened::Refused(f) => Walked::Refused(f),
-            Opened::Open(x) => passed_on(elements(
-                rows,
-                members,
-                entries,
-                sizes,
-                alignments,
+        let size = words::item_at(sizes, a) as usize;
+        return match vector_opened(bytes, values, objects, depth, row, size, b, form, at, c)? {
+            Opened::Closed(d) => Ok(d),
+            Opened::Open(x) => elements(
+                laid,
                 bytes,
                 held,
                 values,
@@ -301,20 +265,15 @@ fn out_of_line(
                 x.count,
                 x.start,
                 x.cursor,
-            )),
+            ),
         };
     }
     if kind == 8 {
-        let size = words::number_at(sizes, a) as usize;
-        return match box_opened(bytes, values, objects, depth, a, size, at, c) {
-            Opened::Closed(d) => Walked::On(d),
-            Opened::Refused(f) => Walked::Refused(f),
-            Opened::Open(x) => passed_on(value(
-                rows,
-                members,
-                entries,
-                sizes,
-                alignments,
+        let size = words::item_at(sizes, a) as usize;
+        return match box_opened(bytes, values, objects, depth, a, size, at, c)? {
+            Opened::Closed(d) => Ok(d),
+            Opened::Open(x) => value(
+                laid,
                 bytes,
                 held,
                 values,
@@ -326,19 +285,14 @@ fn out_of_line(
                 x.cursor.handles,
                 x.cursor.values,
                 x.cursor.objects,
-            )),
+            ),
         };
     }
     if kind == 9 {
-        return match table_opened(bytes, values, objects, depth, row, at, c) {
-            Opened::Closed(d) => Walked::On(d),
-            Opened::Refused(f) => Walked::Refused(f),
-            Opened::Open(x) => passed_on(envelopes(
-                rows,
-                members,
-                entries,
-                sizes,
-                alignments,
+        return match table_opened(bytes, values, objects, depth, row, at, c)? {
+            Opened::Closed(d) => Ok(d),
+            Opened::Open(x) => envelopes(
+                laid,
                 bytes,
                 held,
                 values,
@@ -348,18 +302,13 @@ fn out_of_line(
                 x.count,
                 x.start,
                 x.cursor,
-            )),
+            ),
         };
     }
-    match union_member(members, bytes, values, a, b as usize, form, at, c) {
-        Member::None(d) => Walked::On(d),
-        Member::Bad(f) => Walked::Refused(f),
-        Member::Some(what, d) => passed_on(content(
-            rows,
-            members,
-            entries,
-            sizes,
-            alignments,
+    match union_member(members, bytes, values, a, b as usize, form, at, c)? {
+        Member::Absent(d) => Ok(d),
+        Member::Present(what, d) => content(
+            laid,
             bytes,
             held,
             values,
@@ -369,18 +318,14 @@ fn out_of_line(
             what,
             at + 8,
             d,
-        )),
+        ),
     }
 }
 
 // A table's envelopes in turn.
 #[cycle(composite_content_elements_envelopes_out_of_line_value)]
 fn envelopes(
-    rows: &[u32],
-    members: &[u32],
-    entries: &[u64],
-    sizes: &[u32; 256],
-    alignments: &[u32; 256],
+    laid: &Laid<'_>,
     bytes: &[u8],
     held: usize,
     values: &mut [u64],
@@ -390,76 +335,60 @@ fn envelopes(
     count: usize,
     at: usize,
     c: Cursor,
-) -> Walked
-    requires { Ready (type_table rows.now members.now entries.now) sizes.now alignments.now depth row × (kind_at (type_table rows.now members.now entries.now) row ≡ 9) × Ask (length bytes.now) held (count * 8) at c }
-    ensures { EnvelopesDid (type_table rows.now members.now entries.now) bytes.now held depth values.old values.new objects.old objects.new at c row count result }
+) -> Result<Cursor, Fault>
+    requires { Ready (table_in laid.now) laid.now.sizes.now laid.now.alignments.now depth row × (kind_at (table_in laid.now) row ≡ 9) × Ask (length bytes.now) held (count * 8) at c }
+    ensures { EnvelopesDid (table_in laid.now) bytes.now held depth values.old values.new objects.old objects.new at c row count result }
 {
+    let Laid { rows, members, .. } = *laid;
     let first = table::a_at(rows, row) as usize;
     let known = table::b_at(rows, row) as usize;
     let mut d = c;
-    let mut i: usize = 0;
-    while i < count {
+    for i in 0..count {
         let place = at + i * 8;
-        i += 1;
-        if words::load64(bytes, place) == 0 {
-            if i == count {
-                return refused(19, place);
+        let ordinal = i + 1;
+        if u64::load(bytes, place) == 0 {
+            if ordinal == count {
+                return refused(Refusal::LastEnvelopeZero, place);
             }
             d = gave(values, 0, d);
         } else {
-            let what = ordinals::ordinal_of(members, first, known, i as u64);
+            let what = ordinals::ordinal_of(members, first, known, ordinal as u64);
             let e = gave(values, 1, d);
-            match content(
-                rows, members, entries, sizes, alignments, bytes, held, values, objects, depth,
-                row, what, place, e,
-            ) {
-                Walked::On(f) => {
-                    d = f;
-                }
-                Walked::Refused(f) => {
-                    return Walked::Refused(f);
-                }
-            }
+            d = content(
+                laid, bytes, held, values, objects, depth, row, what, place, e,
+            )?;
         }
     }
-    Walked::On(d)
+    Ok(d)
 }
 
 // An envelope's content: a known payload one level down, or unknown content.
 #[cycle(composite_content_elements_envelopes_out_of_line_value)]
 fn content(
-    rows: &[u32],
-    members: &[u32],
-    entries: &[u64],
-    sizes: &[u32; 256],
-    alignments: &[u32; 256],
+    laid: &Laid<'_>,
     bytes: &[u8],
     held: usize,
     values: &mut [u64],
     objects: &mut [u32],
     depth: usize,
     row: usize,
-    what: Ordinal,
+    what: Option<usize>,
     at: usize,
     c: Cursor,
-) -> Walked
-    requires { Ready (type_table rows.now members.now entries.now) sizes.now alignments.now depth row × OrdinalFits (type_table rows.now members.now entries.now) what × Ask (length bytes.now) held 7 at c }
-    ensures { ContentDid (type_table rows.now members.now entries.now) bytes.now held depth values.old values.new objects.old objects.new at c row what result }
+) -> Result<Cursor, Fault>
+    requires { Ready (table_in laid.now) laid.now.sizes.now laid.now.alignments.now depth row × OrdinalFits (table_in laid.now) what × Ask (length bytes.now) held 7 at c }
+    ensures { ContentDid (table_in laid.now) bytes.now held depth values.old values.new objects.old objects.new at c row what result }
 {
+    let Laid { sizes, .. } = *laid;
     match what {
-        Ordinal::Unknown => unknown_content(bytes, held, values, objects, depth, row, at, c),
-        Ordinal::Known(payload) => {
-            let size = words::number_at(sizes, payload) as usize;
-            match known_opened(bytes, objects, depth, payload, size, at, c) {
-                Opened::Closed(d) => Walked::On(d),
-                Opened::Refused(f) => Walked::Refused(f),
+        None => unknown_content(bytes, held, values, objects, depth, row, at, c),
+        Some(payload) => {
+            let size = words::item_at(sizes, payload) as usize;
+            match known_opened(bytes, objects, depth, payload, size, at, c)? {
+                Opened::Closed(d) => Ok(d),
                 Opened::Open(x) => {
-                    match value(
-                        rows,
-                        members,
-                        entries,
-                        sizes,
-                        alignments,
+                    let d = value(
+                        laid,
                         bytes,
                         held,
                         values,
@@ -471,10 +400,8 @@ fn content(
                         x.cursor.handles,
                         x.cursor.values,
                         x.cursor.objects,
-                    ) {
-                        Walked::On(d) => sealed(bytes, size, at, c.next, c.handles, d),
-                        Walked::Refused(f) => Walked::Refused(f),
-                    }
+                    )?;
+                    sealed(bytes, size, at, c.next, c.handles, d)
                 }
             }
         }

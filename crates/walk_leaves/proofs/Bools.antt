@@ -1,15 +1,15 @@
 -- Bools all at once: where none of them is above 1, those of a plan that is a bool alone are numbers of one byte.
 -- Assumes nothing.
-use mathlib.Core.Bool.{true, ◌&&◌}
+use Rattle.std.specs.Prelude.{Ok}
+use mathlib.Core.Bool.{true}
 use mathlib.Core.List.{List, [], ◌∷◌}
 use mathlib.Core.Path.{◌≡◌, refl, sym, ap, ◌∙◌}
 use Prim.Native.Nat.{ℕ, zero, suc, ◌+◌, ◌-◌, ◌*◌, ◌≤◌, ◌<◌}
 use native.Mathlib.Nat.{add-zero}
 use native.Mathlib.Omega.{arith}
-use borrow.Author.Tests.{eqb-true, le-leb}
-use lib.Dec.{eqb}
+use borrow.Author.Tests.{le-leb}
 use lib.ListN.{get_or, take, drop}
-use Rattle.rules.specs.Sizes.{Field, field, fields_size}
+use Rattle.rules.specs.Sizes.{field, fields_size}
 use Rattle.rules.specs.Decode as D
 use Rattle.rules.specs.Decode.{Message, Decoder}
 use Rattle.rules.specs.Envelope.{decode_word}
@@ -18,33 +18,22 @@ use Rattle.rules.specs.Walk as W
 use Rattle.words.specs.Bits.{all_bits}
 use Rattle.words.proofs.Bits.{part_none_above}
 use Rattle.words.proofs.Loads.{word_byte}
-use Rattle.rules.proofs.Tests.{both}
-use Rattle.plans.specs.declared.Plan.{Plan}
-use Rattle.plans.specs.Plans.{parts_size, parts_from, parts_of}
+use Rattle.plans.specs.declared.Part.{Part}
+use Rattle.plans.specs.Plans.{width_layout, part_fields, parts_size}
 use Rattle.rules.specs.Sound.{width_allowed}
 use Rattle.walk_leaves.specs.declared.cursor.Cursor.{Cursor}
-use Rattle.walk_leaves.specs.declared.cursor.Walked.TheVariants.{On}
 use Rattle.walk_leaves.specs.Doing.{message, Ask}
 use Rattle.walk_leaves.specs.Parts.{bool_at, numbers_at, DidValues}
-use Rattle.walk_leaves.specs.Planning.{parts_at, DidAsked}
+use Rattle.walk_leaves.specs.Planning.{width_at, parts_at, DidAsked}
 use Rattle.walk_leaves.proofs.Reading.{decoders_grouped}
 use Rattle.walk_leaves.proofs.Results.{then_same}
 use Rattle.walk_leaves.proofs.Steps.{did_more}
-
--- ---- the plan
-
-pub bool_plan : (plan : Plan) → eqb plan.count 1 && eqb (get_or plan.widths 0 0) 0 && eqb (get_or plan.fills 0 0) 0 ≡ true → parts_of plan ≡ field 0 0 ∷ []
-unfolding parts_from
-bool_plan plan e =
-    let filled = both _ _ e in
-    let wide = both _ _ filled.0 in
-    rw (eqb-true plan.count 1 wide.0, eqb-true (get_or plan.widths 0 0) 0 wide.1, eqb-true (get_or plan.fills 0 0) 0 filled.1)
 
 -- ---- the run
 
 module _ (m : Message) where
   -- No fill follows a bool alone.
-  pub one_bool : parts_at (field 0 0 ∷ []) m ≡ bool_at m
+  pub one_bool : W.fields m width_layout (width_at m) (field 0 0 ∷ []) ≡ bool_at m
   unfolding W.fields
   one_bool = let g = decoders_grouped m in rw (g.no_fill, g.nothing_first D.nothing, g.nothing_last 1 (bool_at m))
 
@@ -54,7 +43,7 @@ module _ (m : Message) where
   bool_number at n u h = simp (word_byte, le-leb _ _ h)
 
   bools_numbers : (index count at n u : ℕ) → ((i : ℕ) → i < count → get_or m.bytes (at + i) 0 ≤ 1)
-      → D.elements 1 (λ i. parts_at (field 0 0 ∷ []) m) index count at n u ≡ D.elements 1 (λ i. decode_word m 1) index count at n u
+      → D.elements 1 (λ i. W.fields m width_layout (width_at m) (field 0 0 ∷ [])) index count at n u ≡ D.elements 1 (λ i. decode_word m 1) index count at n u
   unfolding D.elements D.sequence
   bools_numbers index zero at n u low = refl
   bools_numbers index (suc count) at n u low =
@@ -67,7 +56,7 @@ module _ (m : Message) where
       rest i h = let e : at + suc i ≡ at + 1 + i = omega arith in rw e at (low (suc i) (omega arith))
 
 -- What is asked for, of values of one byte.
-module _ {parts : List Field} (one : parts ≡ field 0 0 ∷ []) {size : ℕ} (s : parts_size parts ≡ size) where
+module _ (parts : List Part) (one : part_fields parts ≡ field 0 0 ∷ []) {size : ℕ} (s : parts_size parts ≡ size) where
   one_byte : size ≡ 1
   unfolding fields_size
   one_byte = sym s ∙ rw one
@@ -82,8 +71,8 @@ module _ {parts : List Field} (one : parts ≡ field 0 0 ∷ []) {size : ℕ} (s
   -- A part of the bytes was lent, none of which is above 1.
   pub bools_given : (bytes : List ℕ) (count at : ℕ) {v v' : List ℕ} {c d : Cursor} {bits : ℕ}
       → bits ≡ all_bits (take (at + count - at) (drop at bytes)) → bits ≤ 1
-      → DidValues bytes v v' count at c (On d) (numbers_at 1 count)
-      → DidAsked bytes v v' (count * size) at c (On d) (λ m. D.elements size (λ i. parts_at parts m) 0 count)
+      → DidValues bytes v v' count at c (Ok d) (numbers_at 1 count)
+      → DidAsked bytes v v' (count * size) at c (Ok d) (λ m. D.elements size (λ i. parts_at parts m) 0 count)
   unfolding numbers_at
   bools_given bytes count at {c = c} is low did t objects handles a =
       rw (one, one_byte, bools_numbers (message t bytes handles) 0 count at c.next c.handles each)

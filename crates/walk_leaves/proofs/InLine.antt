@@ -1,5 +1,6 @@
 -- Laws of the values that stand in line: bools, numbers, handles, and runs of numbers; a law for each way that a function ends.
 -- Assumes nothing.
+use Rattle.std.specs.Prelude.{Err, Ok}
 use mathlib.Core.Path.{◌≡◌, refl, sym, ap, ◌∙◌}
 use mathlib.Core.Bool.{Bool, true, false}
 use mathlib.Core.List.{List, [], ◌∷◌, ◌++◌, append_assoc}
@@ -25,8 +26,7 @@ use Rattle.words.proofs.Stores.{sets_past}
 use Rattle.rules.specs.Sound.{width_allowed}
 use Rattle.layout.proofs.ByKind.{width_positive}
 use Rattle.walk_leaves.specs.declared.cursor.Cursor.{Cursor}
-use Rattle.walk_leaves.specs.declared.cursor.Walked.{Walked}
-use Rattle.walk_leaves.specs.declared.cursor.Walked.TheVariants.{On, Refused}
+use Rattle.walk_leaves.specs.Doing.{Walked}
 use Rattle.walk_leaves.specs.Doing.{message, gave_one}
 use Rattle.walk_leaves.specs.Parts.{bool_at, handle_at, numbers_at, words_from, DidValues, DidHandles}
 use Rattle.walk_leaves.proofs.Steps.{cursor_same, did_stop, did_one}
@@ -53,24 +53,21 @@ pub numbers_counted : (width count at first : ℕ) → at + count * width ≤ 65
 numbers_counted width count at first inside allowed h =
     record { fits = omega (arith, le-mul_of_pos_right count (width_positive width allowed)) }
 
-pub next_counted : (i end : ℕ) → i < end → Fits w64 end → Fits w64 (i + 1)
-next_counted i end h k = record { fits = omega arith }
-
 -- ---- bools
 
 module _ (bytes values : List ℕ) (at : ℕ) (c : Cursor) {x : ℕ} (read : x ≡ get_or bytes at 0) where
-  pub bool_refused : {r : Walked} → 1 < x → r ≡ Refused (fault bool_not_zero_or_one (Byte at)) → DidValues bytes values values 1 at c r bool_at
+  pub bool_refused : {r : Walked} → 1 < x → r ≡ Err (fault bool_not_zero_or_one (Byte at)) → DidValues bytes values values 1 at c r bool_at
   unfolding bool_at D.record_then read_number
   bool_refused h e t objects handles free held = simp (e, word_byte, ← read, lt-leb _ _ h) did_stop
 
-  pub bool_given : {values' : List ℕ} {d : Cursor} → x ≤ 1 → values' ≡ set values c.values x → d ≡ gave_one c → DidValues bytes values values' 1 at c (On d) bool_at
+  pub bool_given : {values' : List ℕ} {d : Cursor} → x ≤ 1 → values' ≡ set values c.values x → d ≡ gave_one c → DidValues bytes values values' 1 at c (Ok d) bool_at
   unfolding bool_at D.record_then read_number
   bool_given h e f t objects handles free held = simp (e, f, word_byte, ← read, le-leb _ _ h) (did_one x (omega arith) free held)
 
 -- ---- numbers
 
 pub number_given : (bytes values : List ℕ) (width at : ℕ) (c : Cursor) {x : ℕ} {values' : List ℕ} {d : Cursor} → x ≡ word bytes at width
-    → values' ≡ set values c.values x → d ≡ gave_one c → DidValues bytes values values' 1 at c (On d) (λ m. decode_word m width)
+    → values' ≡ set values c.values x → d ≡ gave_one c → DidValues bytes values values' 1 at c (Ok d) (λ m. decode_word m width)
 unfolding decode_word D.record_then read_number
 number_given bytes values width at c read e f t objects handles free held = rw (e, f, ← read) (did_one _ (omega arith) free held)
 
@@ -78,17 +75,17 @@ number_given bytes values width at c read e f t objects handles free held = rw (
 
 module _ (bytes values : List ℕ) (held optional at : ℕ) (c : Cursor) {x : ℕ} (read : x ≡ word bytes at 4) where
   pub handle_absent : {values' : List ℕ} {d : Cursor} → x ≡ 0 → optional ≡ 1 → values' ≡ set values c.values 0 → d ≡ gave_one c → c.handles ≤ held
-      → DidHandles bytes values values' held 1 at c (On d) (handle_at (eqb optional 1))
+      → DidHandles bytes values values' held 1 at c (Ok d) (handle_at (eqb optional 1))
   unfolding handle_at D.record_then read_presence presence
   handle_absent p q e f k t objects free = simp (e, f, ← read, p, q) (did_one 0 (omega arith) free k)
 
-  pub handle_required : {r : Walked} → x ≡ 0 → (optional ≡ 1 → ⊥) → r ≡ Refused (fault required_absent (Byte at))
+  pub handle_required : {r : Walked} → x ≡ 0 → (optional ≡ 1 → ⊥) → r ≡ Err (fault required_absent (Byte at))
       → DidHandles bytes values values held 1 at c r (handle_at (eqb optional 1))
   unfolding handle_at D.record_then read_presence presence
   handle_required p q e t objects free = simp (e, ← read, p, ne_eqb _ _ q) did_stop
 
   pub handle_taken : {values' : List ℕ} {d : Cursor} → x ≡ ones32 → values' ≡ set values c.values 1 → d ≡ gave_one c → c.handles < held
-      → DidHandles bytes values values' held 1 at c (On (record { next = d.next; handles = c.handles + 1; values = d.values; objects = d.objects })) (handle_at (eqb optional 1))
+      → DidHandles bytes values values' held 1 at c (Ok (record { next = d.next; handles = c.handles + 1; values = d.values; objects = d.objects })) (handle_at (eqb optional 1))
   unfolding handle_at D.record_then read_presence presence D.take_handles object_list
   handle_taken p e f k t objects free = simp (e, f, ← read, p, le-leb (c.handles + 1) held (omega arith)) (record {
     says = cursor_same c.next (c.handles + 1) refl (sym (add-zero c.objects));
@@ -98,13 +95,13 @@ module _ (bytes values : List ℕ) (held optional at : ℕ) (c : Cursor) {x : �
     rises = (omega arith, omega arith);
   })
 
-  pub handle_missing : {values' : List ℕ} {r : Walked} → x ≡ ones32 → values' ≡ set values c.values 1 → held ≤ c.handles → r ≡ Refused (fault too_few_handles (Byte at))
+  pub handle_missing : {values' : List ℕ} {r : Walked} → x ≡ ones32 → values' ≡ set values c.values 1 → held ≤ c.handles → r ≡ Err (fault too_few_handles (Byte at))
       → DidHandles bytes values values' held 1 at c r (handle_at (eqb optional 1))
   unfolding handle_at D.record_then read_presence presence D.take_handles object_list
   handle_missing p e k f t objects free =
       simp (e, f, ← read, p, lt-leb (c.handles + 1) held (omega arith)) (record { says = refl; valued = refl; listed = refl; within = tt; rises = tt })
 
-  pub handle_wrong : {r : Walked} → (x ≡ 0 → ⊥) → (x ≡ ones32 → ⊥) → r ≡ Refused (fault presence_wrong (Byte at))
+  pub handle_wrong : {r : Walked} → (x ≡ 0 → ⊥) → (x ≡ ones32 → ⊥) → r ≡ Err (fault presence_wrong (Byte at))
       → DidHandles bytes values values held 1 at c r (handle_at (eqb optional 1))
   unfolding handle_at D.record_then read_presence presence
   handle_wrong p q e t objects free = simp (e, ← read, ne_eqb _ _ p, ne_eqb _ _ q) did_stop
@@ -202,7 +199,7 @@ gave_many count c = record { next = c.next; handles = c.handles; values = c.valu
 
 module _ (bytes values : List ℕ) (width count at : ℕ) (c : Cursor) where
   pub numbers_given : {values' : List ℕ} → values' ≡ sets values c.values (words_from bytes width at count)
-      → DidValues bytes values values' count at c (On (gave_many count c)) (numbers_at width count)
+      → DidValues bytes values values' count at c (Ok (gave_many count c)) (numbers_at width count)
   unfolding numbers_at object_list
   numbers_given e t objects handles free held = rw (elements_words (message t bytes handles) width 0 count at c.next c.handles) (record {
     says = cursor_same c.next c.handles (ap (λ (n : ℕ). c.values + n) (sym (length_words_from bytes width at count))) (sym (add-zero c.objects));
@@ -214,5 +211,5 @@ module _ (bytes values : List ℕ) (width count at : ℕ) (c : Cursor) where
 
   -- past the lent list's end
   pub numbers_past : length values ≤ c.values
-      → DidValues bytes values values count at c (On (gave_many count c)) (numbers_at width count)
+      → DidValues bytes values values count at c (Ok (gave_many count c)) (numbers_at width count)
   numbers_past h = numbers_given (sym (sets_past values c.values (words_from bytes width at count) h))

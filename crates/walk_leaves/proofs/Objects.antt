@@ -1,5 +1,6 @@
 -- Laws of fill and of claims; a law for each way that a function ends.
 -- Assumes nothing.
+use Rattle.std.specs.Prelude.{Err, Ok}
 use mathlib.Core.Path.{◌≡◌, refl, sym}
 use mathlib.Core.List.{List, [], ◌∷◌}
 use Prim.Native.Nat.{ℕ, zero, suc, ◌+◌, ◌-◌, ◌≤◌, ◌<◌}
@@ -15,8 +16,7 @@ use Rattle.rules.specs.Bytes.{part, leading_zeros, padded}
 use Rattle.rules.specs.Trace.{object_list}
 use Rattle.rules.specs.Decode as D
 use Rattle.walk_leaves.specs.declared.cursor.Cursor.{Cursor}
-use Rattle.walk_leaves.specs.declared.cursor.Walked.{Walked}
-use Rattle.walk_leaves.specs.declared.cursor.Walked.TheVariants.{On, Refused}
+use Rattle.walk_leaves.specs.Doing.{Walked}
 use Rattle.walk_leaves.specs.Parts.{claim_at, DidObjects, DidNeither}
 use Rattle.walk_leaves.proofs.Steps.{cursor_same, did_stop, did_nothing}
 
@@ -35,11 +35,11 @@ unfolding part
 all_zeros bytes at count e h = omega (arith, zeros_most (drop at bytes) count)
 
 module _ (bytes : List ℕ) (at count : ℕ) (c : Cursor) {zeros : ℕ} (e : zeros ≡ leading_zeros (part bytes at count)) where
-  pub fill_refused : {r : Walked} → zeros < count → r ≡ Refused (fault fill_not_zero (Byte (at + zeros))) → DidNeither bytes 0 at c r (λ m. D.fill m count)
+  pub fill_refused : {r : Walked} → zeros < count → r ≡ Err (fault fill_not_zero (Byte (at + zeros))) → DidNeither bytes 0 at c r (λ m. D.fill m count)
   unfolding D.fill
   fill_refused h f t values objects handles free held = simp (f, ← e, ne_eqb zeros count (λ q. omega arith)) did_stop
 
-  pub fill_passed : count ≤ zeros → DidNeither bytes 0 at c (On c) (λ m. D.fill m count)
+  pub fill_passed : count ≤ zeros → DidNeither bytes 0 at c (Ok c) (λ m. D.fill m count)
   unfolding D.fill
   fill_passed h t values objects handles free held = simp (eq-eqb _ _ (all_zeros bytes at count e h)) (did_nothing free held)
 
@@ -54,20 +54,20 @@ four_stores l i a b c d p q r s =
     rw (s, r, q, p, add-one i, e, f)
 
 module _ (bytes objects : List ℕ) (kind row size : ℕ) (c : Cursor) {whole : ℕ} (w : whole ≡ padded size) where
-  pub claim_unfit : {r : Walked} → length bytes - c.next < whole → r ≡ Refused (fault object_does_not_fit (Byte c.next))
+  pub claim_unfit : {r : Walked} → length bytes - c.next < whole → r ≡ Err (fault object_does_not_fit (Byte c.next))
       → DidObjects bytes objects objects 4 0 c r (claim_at kind row size)
   unfolding claim_at
   claim_unfit h e t values handles free held = simp (e, ← w, lt-leb (c.next + whole) (length bytes) (omega arith)) did_stop
 
   module _ (fits : whole ≤ length bytes - c.next) {zeros : ℕ} (e : zeros ≡ leading_zeros (part bytes (c.next + size) (whole - size))) where
-    pub claim_unfilled : {r : Walked} → zeros < whole - size → r ≡ Refused (fault fill_not_zero (Byte (c.next + size + zeros)))
+    pub claim_unfilled : {r : Walked} → zeros < whole - size → r ≡ Err (fault fill_not_zero (Byte (c.next + size + zeros)))
         → DidObjects bytes objects objects 4 0 c r (claim_at kind row size)
     unfolding claim_at
     claim_unfilled h f t values handles free held =
         simp (f, ← w, ← e, le-leb (c.next + whole) (length bytes) (omega arith), ne_eqb zeros (whole - size) (λ q. omega arith)) did_stop
 
     pub claim_given : {objects' : List ℕ} → whole - size ≤ zeros → objects' ≡ sets objects c.objects (kind ∷ row ∷ c.next ∷ size ∷ [])
-        → DidObjects bytes objects objects' 4 0 c (On (record { next = c.next + whole; handles = c.handles; values = c.values; objects = c.objects + 4 })) (claim_at kind row size)
+        → DidObjects bytes objects objects' 4 0 c (Ok (record { next = c.next + whole; handles = c.handles; values = c.values; objects = c.objects + 4 })) (claim_at kind row size)
     unfolding claim_at object_list
     claim_given h f t values handles free held =
         simp (← w, le-leb (c.next + whole) (length bytes) (omega arith), eq-eqb _ _ (all_zeros bytes (c.next + size) (whole - size) e h)) (record {

@@ -1,5 +1,6 @@
 -- Reading, as an algebra of parts: a part of the walk is lent the values and the objects, and takes its bytes in line at a place.
 -- Assumes nothing.
+use Rattle.std.specs.Prelude.{Err, Ok}
 use mathlib.Core.List.{List, [], ◌∷◌}
 use mathlib.Core.Path.{◌≡◌, refl, sym, ap, fun_ext}
 use Prim.Native.Nat.{ℕ, ◌+◌}
@@ -13,16 +14,15 @@ use Rattle.rules.specs.Sizes.{Field, field}
 use Rattle.rules.specs.Decode as D
 use Rattle.rules.specs.Decode.{Message, Decoder}
 use Rattle.rules.specs.Walk as W
-use Rattle.plans.specs.Plans.{width_size, width_layout}
+use Rattle.plans.specs.Plans.{width_layout}
 use Rattle.layout.specs.Ready.{some_table}
 use Rattle.nesting.proofs.Algebra.{Grouping, Algebra, Leading, Doing}
 use Rattle.nesting.proofs.Items.{items_of}
 use Rattle.nesting.proofs.Work.{run}
 use Rattle.walk_leaves.specs.declared.cursor.Cursor.{Cursor}
-use Rattle.walk_leaves.specs.declared.cursor.Walked.{Walked}
-use Rattle.walk_leaves.specs.declared.cursor.Walked.TheVariants.{On, Refused}
+use Rattle.walk_leaves.specs.Doing.{Walked}
 use Rattle.walk_leaves.specs.Doing.{message, Did, Ask}
-use Rattle.walk_leaves.specs.Planning.{width_at, parts_at, DidAsked}
+use Rattle.walk_leaves.specs.Planning.{width_at, DidAsked}
 use Rattle.walk_leaves.proofs.Steps.{did_nothing, did_then, did_halt, went_on}
 use Rattle.walk_leaves.proofs.Results.{after_none, then_nothing, then_then}
 
@@ -56,7 +56,7 @@ run_fields m layouts inner (field row fill ∷ fs) = rw (run_fields m layouts in
 abbrev pub DidPart : (m : Message) (size place : ℕ) (l l' : List ℕ × List ℕ) → Cursor → Walked → Decoder → Type 0
 DidPart m size place l l' c r p = Did (length m.bytes) m.handles size l.0 l'.0 l.1 l'.1 c r (p place c.next c.handles)
 
-pub did_leads : (m : Message) → Leading (decoders m) Cursor (List ℕ × List ℕ) Walked On Refused (Ask (length m.bytes) m.handles) (DidPart m)
+pub did_leads : (m : Message) → Leading (decoders m) Cursor (List ℕ × List ℕ) Walked Ok Err (Ask (length m.bytes) m.handles) (DidPart m)
 unfolding D.sequence
 did_leads m = record {
   ask_first = λ first rest a. record { short = a.short; few = a.few; inside = omega (arith, a.inside); free = a.free; held = a.held; small = omega (arith, a.small) };
@@ -69,7 +69,7 @@ did_leads m = record {
 }
 
 abbrev pub reading : (m : Message) → Doing (decoders m)
-reading m = record { Cursor = Cursor; Lent = List ℕ × List ℕ; Answer = Walked; on = On; refused = Refused; Ask = Ask (length m.bytes) m.handles; Did = DidPart m; laws = did_leads m }
+reading m = record { Cursor = Cursor; Lent = List ℕ × List ℕ; Answer = Walked; on = Ok; refused = Err; Ask = Ask (length m.bytes) m.handles; Did = DidPart m; laws = did_leads m }
 
 -- ---- under any type table, with any handle count, wherever it is asked for; the objects are left alone
 
@@ -94,16 +94,16 @@ any_decoders = record {
 }
 
 -- The parts of a plan, in order.
-pub run_parts : (fs : List Field) → parts_at fs ≡ run any_decoders width_layout (λ width m. width_at m width) (items_of fs)
+pub run_parts : (fs : List Field) → (λ m. W.fields m width_layout (width_at m) fs) ≡ run any_decoders width_layout (λ width m. width_at m width) (items_of fs)
 unfolding W.fields run items_of
 run_parts [] = refl
 run_parts (field width fill ∷ fs) =
-    ap {B = Message → Decoder} (λ (rest : Message → Decoder) (m : Message). D.sequence (width_size width) (width_at m width) (D.sequence fill (D.fill m fill) (rest m))) (run_parts fs)
+    ap {B = Message → Decoder} (λ (rest : Message → Decoder) (m : Message). D.sequence (width_layout width).size (width_at m width) (D.sequence fill (D.fill m fill) (rest m))) (run_parts fs)
 
 abbrev pub DidAny : (bytes : List ℕ) (size place : ℕ) (v v' : List ℕ) → Cursor → Walked → (Message → Decoder) → Type 0
 DidAny bytes size place v v' c r p = DidAsked bytes v v' size place c r p
 
-pub any_leads : (bytes : List ℕ) → Leading any_decoders Cursor (List ℕ) Walked On Refused (Ask (length bytes) 64) (DidAny bytes)
+pub any_leads : (bytes : List ℕ) → Leading any_decoders Cursor (List ℕ) Walked Ok Err (Ask (length bytes) 64) (DidAny bytes)
 any_leads bytes = record {
   ask_first = λ first rest a. (at some_table 64).ask_first first rest a;
   ask_rest = λ first rest place p a did. (at some_table 64).ask_rest first rest place (p (message some_table bytes 64)) a (did some_table [] 64 ((at some_table 64).ask_first first rest a));
@@ -117,8 +117,8 @@ any_leads bytes = record {
       (at t handles).did_halt first rest place (p m) (q m) (did t objects handles ((at t handles).ask_first first rest asked));
 }
   where
-    at : (t : TypeTable) (handles : ℕ) → Leading (decoders (message t bytes handles)) Cursor (List ℕ × List ℕ) Walked On Refused (Ask (length bytes) handles) (DidPart (message t bytes handles))
+    at : (t : TypeTable) (handles : ℕ) → Leading (decoders (message t bytes handles)) Cursor (List ℕ × List ℕ) Walked Ok Err (Ask (length bytes) handles) (DidPart (message t bytes handles))
     at t handles = did_leads (message t bytes handles)
 
 abbrev pub reading_any : (bytes : List ℕ) → Doing any_decoders
-reading_any bytes = record { Cursor = Cursor; Lent = List ℕ; Answer = Walked; on = On; refused = Refused; Ask = Ask (length bytes) 64; Did = DidAny bytes; laws = any_leads bytes }
+reading_any bytes = record { Cursor = Cursor; Lent = List ℕ; Answer = Walked; on = Ok; refused = Err; Ask = Ask (length bytes) 64; Did = DidAny bytes; laws = any_leads bytes }

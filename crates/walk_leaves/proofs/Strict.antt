@@ -1,5 +1,6 @@
 -- Strict enums and strict bits: one value, and what is left of a run of them.
 -- Assumes nothing.
+use Rattle.std.specs.Prelude.{Err, Ok}
 use mathlib.Core.Bool.{Bool, true, false}
 use mathlib.Core.List.{List}
 use mathlib.Core.Path.{◌≡◌, refl, sym}
@@ -15,10 +16,11 @@ use Rattle.rules.specs.Records.{unless, read_number}
 use Rattle.layout.proofs.ByKind.{width_positive}
 use Rattle.strict.specs.Strict.{allowed, strict_pattern, StrictRow}
 use Rattle.strict.proofs.Numbers.{row_allows}
-use Rattle.nesting.proofs.Runs.{RunLeft, run_next, run_stopped, run_one}
+use Rattle.nesting.proofs.Runs.{RunLeft, run_stopped, run_one}
+use Rattle.nesting.proofs.Counted.{turns_next}
+use native.Mathlib.Omega.{arith}
 use Rattle.walk_leaves.specs.declared.cursor.Cursor.{Cursor}
-use Rattle.walk_leaves.specs.declared.cursor.Walked.{Walked}
-use Rattle.walk_leaves.specs.declared.cursor.Walked.TheVariants.{On, Refused}
+use Rattle.walk_leaves.specs.Doing.{Walked}
 use Rattle.walk_leaves.specs.Doing.{gave_one}
 use Rattle.walk_leaves.specs.Parts.{strict_at}
 use Rattle.walk_leaves.specs.Planning.{DidAsked}
@@ -38,24 +40,24 @@ module _ {rows entries : List ℕ} {row : ℕ} (sound : StrictRow rows entries r
   pattern : {b : Bool} → test ≡ b → strict_pattern rows entries row (word bytes place (a_in rows row)) ≡ unless strict_value_unknown b
   pattern e = rw (← w, ← read, ← (row_allows sound k f n x judged), e)
 
-  refused_one : {v : List ℕ} {d : Cursor} → test ≡ false → DidAsked bytes v v (a_in rows row) place d (Refused (fault strict_value_unknown (Byte place))) (strict_at rows entries row)
+  refused_one : {v : List ℕ} {d : Cursor} → test ≡ false → DidAsked bytes v v (a_in rows row) place d (Err (fault strict_value_unknown (Byte place))) (strict_at rows entries row)
   unfolding strict_at D.record_then read_number
   refused_one e t objects handles a = rw (pattern e) did_stop
 
-  given_one : {v v' : List ℕ} {d e : Cursor} → test ≡ true → v' ≡ set v d.values x → e ≡ gave_one d → DidAsked bytes v v' (a_in rows row) place d (On e) (strict_at rows entries row)
+  given_one : {v v' : List ℕ} {d e : Cursor} → test ≡ true → v' ≡ set v d.values x → e ≡ gave_one d → DidAsked bytes v v' (a_in rows row) place d (Ok e) (strict_at rows entries row)
   unfolding strict_at D.record_then read_number
   given_one e s g t objects handles a =
       rw (pattern e, s, g, read, w) (did_one (word bytes place (a_in rows row)) (width_positive (a_in rows row) sound.width) a.free a.held)
 
   -- In a run of them.
-  module _ {grow at left : ℕ} {whole : Message → Decoder} {v : List ℕ} {c : Cursor} {v' : List ℕ} {d : Cursor}
-      (run : RunLeft (reading_any bytes) (a_in rows row) (λ i. strict_at rows entries row) grow at whole v c v' d 0 left place) (more : 0 < left) where
-    pub strict_stopped : {r : Walked} → test ≡ false → r ≡ Refused (fault strict_value_unknown (Byte place)) → DidAsked bytes v v' grow at c r whole
-    strict_stopped e z = rw z (run_stopped run more (refused_one e) refl)
+  module _ {grow at count i : ℕ} {whole : Message → Decoder} {v : List ℕ} {c : Cursor} {v' : List ℕ} {d : Cursor}
+      (run : RunLeft (reading_any bytes) (a_in rows row) (λ i. strict_at rows entries row) grow at whole v c v' d 0 (count - i) place) (more : i < count) where
+    pub strict_stopped : {r : Walked} → test ≡ false → r ≡ Err (fault strict_value_unknown (Byte place)) → DidAsked bytes v v' grow at c r whole
+    strict_stopped e z = rw z (run_stopped run (omega arith) (refused_one e) refl)
 
     pub strict_next : {v'' : List ℕ} {e : Cursor} → test ≡ true → v'' ≡ set v' d.values x → e ≡ gave_one d
-        → RunLeft (reading_any bytes) (a_in rows row) (λ i. strict_at rows entries row) grow at whole v c v'' e 0 (left - 1) (place + width)
-    strict_next e s g = run_next run more (given_one e s g) (sym w) refl
+        → RunLeft (reading_any bytes) (a_in rows row) (λ i. strict_at rows entries row) grow at whole v c v'' e 0 (count - (i + 1)) (place + width)
+    strict_next e s g = turns_next run more (given_one e s g) (sym w) refl
 
 -- A value by itself is a run of one.
 pub strict_alone : (rows entries bytes : List ℕ) (row : ℕ) {at : ℕ} {v v' : List ℕ} {c : Cursor} {r : Walked}

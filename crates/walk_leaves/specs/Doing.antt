@@ -1,13 +1,16 @@
 -- How the code's answers and the lent lists stand to the walk of the rules.
 -- Assumes nothing.
-use Rattle.std.specs.Prelude.{◌≡◌, List, ℕ, ◌+◌, ◌-◌, ◌≤◌, length}
+use Rattle.std.specs.Prelude.{◌≡◌, List, ℕ, ◌+◌, ◌-◌, ◌≤◌, length, Result, Ok, Err}
 use Rattle.std.proofs.lemmas.List.Edits.{sets}
+use Rattle.rules.specs.declared.Fault.{Fault}
 use Rattle.rules.specs.TypeTable.{TypeTable}
 use Rattle.rules.specs.Trace.{object_list}
 use Rattle.rules.specs.Decode.{Message, Decoded, went, stopped, trace_of}
 use Rattle.walk_leaves.specs.declared.cursor.Cursor.{Cursor}
-use Rattle.walk_leaves.specs.declared.cursor.Walked.{Walked}
-use Rattle.walk_leaves.specs.declared.cursor.Walked.TheVariants.{On, Refused}
+
+-- A part of the walk went on to a cursor, or was refused.
+abbrev pub Walked : Type 0
+Walked = Result Cursor Fault
 
 abbrev pub message : (t : TypeTable) (bytes : List ℕ) (handles : ℕ) → Message
 message t bytes handles = record { table = t; bytes = bytes; handles = handles }
@@ -19,8 +22,8 @@ values_of (stopped f values trace) = values
 -- The code's answer for a result of the rules, from a cursor on.
 abbrev pub answer : Cursor → Decoded → Walked
 answer c (went next used values trace) =
-    On (record { next = next; handles = used; values = c.values + length values; objects = c.objects + length (object_list trace) })
-answer c (stopped f values trace) = Refused f
+    Ok (record { next = next; handles = used; values = c.values + length values; objects = c.objects + length (object_list trace) })
+answer c (stopped f values trace) = Err f
 
 -- A cursor of four numbers.
 abbrev pub cursor_at : (next handles given listed : ℕ) → Cursor
@@ -36,13 +39,13 @@ load total c = c.values + c.objects + (total - c.next)
 
 -- Where a walk went on it stays within its bounds.
 abbrev pub Within : (total handles most : ℕ) → Walked → Type 0
-Within total handles most (On c) = (c.next ≤ total) × (c.handles ≤ handles) × (load total c ≤ most)
-Within total handles most (Refused f) = Unit {0}
+Within total handles most (Ok c) = (c.next ≤ total) × (c.handles ≤ handles) × (load total c ≤ most)
+Within total handles most (Err f) = Unit {0}
 
 -- A cursor never goes back.
 abbrev pub Rises : Cursor → Walked → Type 0
-Rises c (On e) = (c.next ≤ e.next) × (c.handles ≤ e.handles)
-Rises c (Refused f) = Unit {0}
+Rises c (Ok e) = (c.next ≤ e.next) × (c.handles ≤ e.handles)
+Rises c (Err f) = Unit {0}
 
 -- What a part of the walk did: its answer, and the lent lists before and after it; at most `grow` numbers more.
 pub record Did (total handles grow : ℕ) (values values' objects objects' : List ℕ) (c : Cursor) (r : Walked) (d : Decoded) : Type 0 where

@@ -13,7 +13,7 @@ use Rattle.rules.specs.Envelope.{decode_word}
 use Rattle.rules.specs.Walk as W
 use Rattle.strict.specs.Strict.{strict_pattern}
 use Rattle.walk_leaves.specs.declared.cursor.Cursor.{Cursor}
-use Rattle.walk_leaves.specs.declared.cursor.Walked.{Walked}
+use Rattle.walk_leaves.specs.Doing.{Walked}
 use Rattle.walk_leaves.specs.Doing.{message, Did}
 
 -- ---- in line

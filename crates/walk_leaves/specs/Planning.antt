@@ -2,13 +2,13 @@
 -- Assumes nothing.
 use Rattle.std.specs.Prelude.{List, ℕ, eqb, length, if◌then◌else◌}
 use Rattle.rules.specs.TypeTable.{TypeTable}
-use Rattle.rules.specs.Sizes.{Field}
 use Rattle.rules.specs.Decode.{Message, Decoder}
 use Rattle.rules.specs.Envelope.{decode_word}
 use Rattle.rules.specs.Walk as W
-use Rattle.plans.specs.Plans.{width_layout}
+use Rattle.plans.specs.declared.Part.{Part}
+use Rattle.plans.specs.Plans.{width_layout, part_fields}
 use Rattle.walk_leaves.specs.declared.cursor.Cursor.{Cursor}
-use Rattle.walk_leaves.specs.declared.cursor.Walked.{Walked}
+use Rattle.walk_leaves.specs.Doing.{Walked}
 use Rattle.walk_leaves.specs.Doing.{message, Did, Ask}
 use Rattle.walk_leaves.specs.Parts.{bool_at}
 
@@ -17,8 +17,8 @@ abbrev pub width_at : Message → (width : ℕ) → Decoder
 width_at m width = if eqb width 0 then bool_at m else decode_word m width
 
 -- The parts of a plan, with the fill after each.
-abbrev pub parts_at : List Field → Message → Decoder
-parts_at parts m = W.fields m width_layout (width_at m) parts
+abbrev pub parts_at : List Part → Message → Decoder
+parts_at parts m = W.fields m width_layout (width_at m) (part_fields parts)
 
 -- Done under any type table, with any handle count, wherever it is asked for; the objects are left alone.
 abbrev pub DidAsked : (bytes values values' : List ℕ) (need at : ℕ) (c : Cursor) (r : Walked) → (Message → Decoder) → Type 0

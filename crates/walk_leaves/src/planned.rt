@@ -2,96 +2,84 @@
 ghost use Rattle.std.specs.Prelude.{true, ◌≡◌, [], ◌∷◌, ◌+◌, ◌*◌, ◌≤◌, ◌<◌, length};
 ghost use Rattle.rules.specs.Decode.{elements, fill};
 ghost use Rattle.rules.specs.Sizes.{field};
-ghost use Rattle.plans.specs.Plans.{parts_size, parts_from, parts_of, Runnable};
-ghost use Rattle.rules.specs.Sound.{width_allowed};
+ghost use Rattle.plans.specs.Plans.{runnable, Runnable, width_row, part_fields, parts_size};
 ghost use Rattle.walk_leaves.specs.Doing.{Ask};
 ghost use Rattle.walk_leaves.specs.Parts.{DidValues, DidNeither};
 ghost use Rattle.walk_leaves.specs.Planning.{width_at, parts_at, DidAsked};
 
 use crate::claims::fill_at;
-use crate::cursor::{Cursor, Walked};
+use crate::cursor::Cursor;
 use crate::scalars::{boolean, number, numbers};
-use plans::Plan;
+use plans::{Part, Width};
+use rules::Fault;
 
 // A bool, or a number, which is not looked at where the lent list has no room left.
-fn part(bytes: &[u8], values: &mut [u64], width: u32, at: usize, c: Cursor) -> Walked
-    requires { ((width ≡ 0 → ⊥) → width_allowed width ≡ true) × (c.values < 4294967296) }
-    ensures { DidValues bytes.now values.old values.new 1 at c result (λ m. width_at m width) }
+fn part(
+    bytes: &[u8],
+    values: &mut [u64],
+    width: Width,
+    at: usize,
+    c: Cursor,
+) -> Result<Cursor, Fault>
+    requires { (runnable width ≡ true) × (c.values < 4294967296) }
+    ensures { DidValues bytes.now values.old values.new 1 at c result (λ m. width_at m (width_row width)) }
 {
-    if width == 0 {
-        return boolean(bytes, values, at, c);
+    match width {
+        Width::Boolean => boolean(bytes, values, at, c),
+        Width::Bytes(count) => {
+            if values.len() <= c.values {
+                return Ok(Cursor {
+                    values: c.values + 1,
+                    ..c
+                });
+            }
+            number(bytes, values, count, at, c)
+        }
     }
-    let i = c.values;
-    if values.len() <= i {
-        return Walked::On(Cursor {
-            next: c.next,
-            handles: c.handles,
-            values: i + 1,
-            objects: c.objects,
-        });
-    }
-    number(bytes, values, width, at, c)
 }
 
 // The fill after a part, which most parts have none of.
-fn filled(bytes: &[u8], at: usize, count: usize, c: Cursor) -> Walked
+fn filled(bytes: &[u8], at: usize, count: usize, c: Cursor) -> Result<Cursor, Fault>
     requires { at + count ≤ 131072 }
     ensures { DidNeither bytes.now 0 at c result (λ m. fill m count) }
 {
     if count == 0 {
-        return Walked::On(c);
+        return Ok(c);
     }
     fill_at(bytes, at, count, c)
 }
 
-// One value, part by part.
+// One value, part by part, each with the fill after it.
 fn one(
     bytes: &[u8],
     values: &mut [u64],
-    widths: &[u32; 16],
-    fills: &[u32; 16],
-    count: usize,
+    parts: &[Part],
     at: usize,
     c: Cursor,
-) -> Walked
-    requires { (count ≤ 16) × Runnable (parts_from widths.now fills.now 0 count)
-        × Ask (length bytes.now) 64 (parts_size (parts_from widths.now fills.now 0 count)) at c }
-    ensures { DidAsked bytes.now values.old values.new
-        (parts_size (parts_from widths.now fills.now 0 count)) at c result (parts_at (parts_from widths.now fills.now 0 count)) }
+) -> Result<Cursor, Fault>
+    requires { Runnable parts.now × Ask (length bytes.now) 64 (parts_size parts.now) at c }
+    ensures { DidAsked bytes.now values.old values.new (parts_size parts.now) at c result (parts_at parts.now) }
 {
     let mut d = c;
     let mut place = at;
-    let mut i: usize = 0;
-    while i < count {
-        let width = widths[i];
-        let fill = fills[i] as usize;
-        let stop = place + plans::width_size(width);
-        match part(bytes, values, width, place, d) {
-            Walked::On(e) => match filled(bytes, stop, fill, e) {
-                Walked::On(g) => {
-                    d = g;
-                    place = stop + fill;
-                    i += 1;
-                }
-                Walked::Refused(f) => {
-                    return Walked::Refused(f);
-                }
-            },
-            Walked::Refused(f) => {
-                return Walked::Refused(f);
-            }
-        }
+    for p in parts {
+        let stop = place + p.width.bytes() as usize;
+        let fill = p.fill as usize;
+        let after = part(bytes, values, p.width, place, d)?;
+        d = filled(bytes, stop, fill, after)?;
+        place = stop + fill;
     }
-    Walked::On(d)
+    Ok(d)
 }
 
 // Whether a plan is that of a bool alone.
-fn is_bool(plan: Plan) -> bool
-    ensures { result ≡ true → parts_of plan ≡ field 0 0 ∷ [] }
+fn is_bool(parts: &[Part]) -> bool
+    ensures { result ≡ true → part_fields parts.now ≡ field 0 0 ∷ [] }
 {
-    let widths = plan.widths;
-    let fills = plan.fills;
-    (plan.count == 1) & (widths[0] == 0) & (fills[0] == 0)
+    match parts {
+        [only] => (only.width == Width::Boolean) & (only.fill == 0),
+        _ => false,
+    }
 }
 
 // As many values as there are, one after the other, each of so many bytes. Bools none of which is above 1 are given all at
@@ -99,40 +87,27 @@ fn is_bool(plan: Plan) -> bool
 pub fn planned(
     bytes: &[u8],
     values: &mut [u64],
-    plan: Plan,
+    parts: &[Part],
     size: usize,
     count: usize,
     at: usize,
     c: Cursor,
-) -> Walked
-    requires { (plan.count ≤ 16) × Runnable (parts_of plan) × (parts_size (parts_of plan) ≡ size)
-        × Ask (length bytes.now) 64 (count * size) at c }
+) -> Result<Cursor, Fault>
+    requires { Runnable parts.now × (parts_size parts.now ≡ size) × Ask (length bytes.now) 64 (count * size) at c }
     ensures { DidAsked bytes.now values.old values.new (count * size) at c result
-        (λ m. elements size (λ i. parts_at (parts_of plan) m) 0 count) }
+        (λ m. elements size (λ i. parts_at parts.now m) 0 count) }
 {
-    if is_bool(plan) {
+    if is_bool(parts) {
         let stop = at + count;
-        if words::byte_bits(&bytes[at..stop]) <= 1 {
-            return Walked::On(numbers(bytes, values, 1, count, at, c));
+        if words::bits_of(&bytes[at..stop]) <= 1 {
+            return Ok(numbers(bytes, values, 1, count, at, c));
         }
     }
-    let widths = plan.widths;
-    let fills = plan.fills;
-    let parts = plan.count;
     let mut d = c;
     let mut place = at;
-    let mut left = count;
-    while 0 < left {
-        match one(bytes, values, &widths, &fills, parts, place, d) {
-            Walked::On(e) => {
-                d = e;
-            }
-            Walked::Refused(f) => {
-                return Walked::Refused(f);
-            }
-        }
+    for _ in 0..count {
+        d = one(bytes, values, parts, place, d)?;
         place += size;
-        left -= 1;
     }
-    Walked::On(d)
+    Ok(d)
 }

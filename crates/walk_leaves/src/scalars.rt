@@ -1,23 +1,25 @@
 // Values that stand in line: bools, numbers, handles, and runs of numbers.
-ghost use Rattle.std.specs.Prelude.{◌≡◌, true, ◌+◌, ◌*◌, ◌≤◌, ◌<◌, eqb, length};
+ghost use Rattle.std.specs.Prelude.{◌≡◌, true, ◌+◌, ◌*◌, ◌≤◌, ◌<◌, eqb, length, Ok};
 ghost use Rattle.std.proofs.lemmas.List.Edits.{sets};
 ghost use Rattle.rules.specs.Bytes.{word};
 ghost use Rattle.rules.specs.Envelope.{decode_word};
 ghost use Rattle.rules.specs.Sound.{width_allowed};
 ghost use Rattle.walk_leaves.specs.Parts.{bool_at, handle_at, numbers_at, words_from, DidValues, DidHandles};
 
-use crate::cursor::{Cursor, Walked, gave, refused};
+use crate::cursor::{Cursor, gave, refused};
+use rules::{Fault, Refusal};
+use words::Word;
 
 // A bool: 8.
-pub fn boolean(bytes: &[u8], values: &mut [u64], at: usize, c: Cursor) -> Walked
+pub fn boolean(bytes: &[u8], values: &mut [u64], at: usize, c: Cursor) -> Result<Cursor, Fault>
     requires { c.values < 4294967296 }
     ensures { DidValues bytes.now values.old values.new 1 at c result bool_at }
 {
-    let b = words::byte_at(bytes, at);
+    let b = words::item_at(bytes, at);
     if 1 < b {
-        return refused(8, at);
+        return refused(Refusal::BoolNotZeroOrOne, at);
     }
-    Walked::On(gave(values, b as u64, c))
+    Ok(gave(values, b as u64, c))
 }
 
 // The number of so many bytes at a place.
@@ -26,23 +28,29 @@ pub(crate) fn number_of(bytes: &[u8], width: u32, at: usize) -> u64
     ensures { result ≡ word bytes.now at width }
 {
     if width == 8 {
-        return words::load64(bytes, at);
+        return u64::load(bytes, at);
     }
     if width == 4 {
-        return words::load32(bytes, at) as u64;
+        return u32::load(bytes, at) as u64;
     }
     if width == 2 {
-        return words::load16(bytes, at) as u64;
+        return u16::load(bytes, at) as u64;
     }
-    words::byte_at(bytes, at) as u64
+    words::item_at(bytes, at) as u64
 }
 
-pub fn number(bytes: &[u8], values: &mut [u64], width: u32, at: usize, c: Cursor) -> Walked
+pub fn number(
+    bytes: &[u8],
+    values: &mut [u64],
+    width: u32,
+    at: usize,
+    c: Cursor,
+) -> Result<Cursor, Fault>
     requires { (width_allowed width ≡ true) × (c.values < 4294967296) }
     ensures { DidValues bytes.now values.old values.new 1 at c result (λ m. decode_word m width) }
 {
     let x = number_of(bytes, width, at);
-    Walked::On(gave(values, x, c))
+    Ok(gave(values, x, c))
 }
 
 // A handle's word: 9, 10, 14.
@@ -53,31 +61,29 @@ pub fn handle(
     optional: u32,
     at: usize,
     c: Cursor,
-) -> Walked
+) -> Result<Cursor, Fault>
     requires { (c.values < 4294967296) × (c.handles ≤ held) × (held ≤ 64) }
     ensures { DidHandles bytes.now values.old values.new held 1 at c result (handle_at (eqb optional 1)) }
 {
-    let word = words::load32(bytes, at);
+    let word = u32::load(bytes, at);
     if word == 0 {
         if optional == 1 {
-            return Walked::On(gave(values, 0, c));
+            return Ok(gave(values, 0, c));
         }
-        return refused(10, at);
+        return refused(Refusal::RequiredAbsent, at);
     }
     if word == 4294967295 {
         let used = c.handles;
         let d = gave(values, 1, c);
         if used < held {
-            return Walked::On(Cursor {
-                next: d.next,
+            return Ok(Cursor {
                 handles: used + 1,
-                values: d.values,
-                objects: d.objects,
+                ..d
             });
         }
-        return refused(14, at);
+        return refused(Refusal::TooFewHandles, at);
     }
-    refused(9, at)
+    refused(Refusal::PresenceWrong, at)
 }
 
 // A run of numbers, which holds no test: where the lent list has no room left, nothing is looked at.
@@ -90,15 +96,12 @@ pub fn numbers(
     c: Cursor,
 ) -> Cursor
     requires { (width_allowed width ≡ true) × (at + count * width ≤ 65536) × (c.values < 4294967296) }
-    ensures { DidValues bytes.now values.old values.new count at c (Walked.On result) (numbers_at width count) }
+    ensures { DidValues bytes.now values.old values.new count at c (Ok result) (numbers_at width count) }
 {
     let first = c.values;
-    let end = first + count;
     let done = Cursor {
-        next: c.next,
-        handles: c.handles,
-        values: end,
-        objects: c.objects,
+        values: first + count,
+        ..c
     };
     if values.len() <= first {
         return done;
@@ -137,13 +140,10 @@ fn store_each(bytes: &[u8], values: &mut [u64], width: u32, count: usize, at: us
     requires { (width_allowed width ≡ true) × (at + count * width ≤ 65536) × (first < 4294967296) }
     ensures { values.new ≡ sets values.old first (words_from bytes.now width at count) }
 {
-    let end = first + count;
-    let mut i = first;
     let mut p = at;
-    while i < end {
+    for i in first..first + count {
         let x = number_of(bytes, width, p);
-        words::put_value(values, i, x);
-        i += 1;
+        words::put_item(values, i, x);
         p += width as usize;
     }
 }
@@ -153,9 +153,7 @@ fn store_bytes(bytes: &[u8], values: &mut [u64])
     requires { length values.old ≡ length bytes.now }
     ensures { values.new ≡ bytes.now }
 {
-    let mut i = 0;
-    while i < values.len() {
-        values[i] = bytes[i] as u64;
-        i += 1;
+    for (i, byte) in bytes.iter().enumerate() {
+        values[i] = u64::from(*byte);
     }
 }

@@ -7,8 +7,9 @@ ghost use Rattle.walk_leaves.specs.Doing.{Ask};
 ghost use Rattle.walk_leaves.specs.Parts.{strict_at};
 ghost use Rattle.walk_leaves.specs.Planning.{DidAsked};
 
-use crate::cursor::{Cursor, Walked, gave, refused};
+use crate::cursor::{Cursor, gave, refused};
 use crate::scalars::number_of;
+use rules::{Fault, Refusal};
 
 // Values of a strict enum or of strict bits, one after the other: 29, at the first that its entries don't allow.
 pub fn strict_values(
@@ -20,7 +21,7 @@ pub fn strict_values(
     count: usize,
     at: usize,
     c: Cursor,
-) -> Walked
+) -> Result<Cursor, Fault>
     requires { StrictRow rows.now entries.now row × Ask (length bytes.now) 64 (count * a_in rows.now row) at c }
     ensures { DidAsked bytes.now values.old values.new (count * a_in rows.now row) at c result
         (λ m. elements (a_in rows.now row) (λ i. strict_at rows.now entries.now row m) 0 count) }
@@ -31,15 +32,13 @@ pub fn strict_values(
     let named = table::c_at(rows, row) as usize;
     let mut d = c;
     let mut place = at;
-    let mut left = count;
-    while 0 < left {
+    for _ in 0..count {
         let x = number_of(bytes, width, place);
         if !strict::allows(entries, kind, first, named, x) {
-            return refused(29, place);
+            return refused(Refusal::StrictValueUnknown, place);
         }
         d = gave(values, x, d);
         place += width as usize;
-        left -= 1;
     }
-    Walked::On(d)
+    Ok(d)
 }

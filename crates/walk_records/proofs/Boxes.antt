@@ -1,5 +1,6 @@
 -- A box's word, by the tests that the code makes, and what it leads to.
 -- Assumes nothing.
+use Rattle.std.specs.Prelude.{Err, Ok, Result}
 use mathlib.Core.Path.{◌≡◌, ◌∙◌}
 use mathlib.Core.Bool.{true}
 use mathlib.Core.List.{List, [], ◌∷◌}
@@ -20,7 +21,7 @@ use Rattle.rules.specs.Records.{presence, read_presence}
 use Rattle.rules.specs.Walk as W
 use Rattle.walk_leaves.specs.declared.cursor.Cursor.{Cursor}
 use Rattle.walk_records.specs.declared.records.Opened.{Opened}
-use Rattle.walk_records.specs.declared.records.Opened.TheVariants.{Closed, Refused}
+use Rattle.walk_records.specs.declared.records.Opened.TheVariants.{Closed}
 use Rattle.walk_leaves.specs.Doing.{message, gave_one}
 use Rattle.walk_records.specs.Opening.{box_at}
 use Rattle.walk_records.specs.Promises.{DeeperOpens, BoxOpens}
@@ -42,12 +43,12 @@ module _ (m : Message) (at : ℕ) {says : ℕ} (said : says ≡ word m.bytes at 
 
 module _ (bytes : List ℕ) (depth : ℕ) (values objects : List ℕ) (at : ℕ) (c : Cursor) (element size : ℕ) {says : ℕ} (said : says ≡ word bytes at 8) where
   pub box_closed : {values' : List ℕ} {d : Cursor} → says ≡ 0 → values' ≡ set values c.values 0 → d ≡ gave_one c
-      → BoxOpens bytes depth values values' objects objects at c element size (Closed d)
+      → BoxOpens bytes depth values values' objects objects at c element size (Ok (Closed d))
   box_closed h e g t handles sized ask =
       rw (e, g, record_got 8 _ _ at c.next c.handles (box_absent (message t bytes handles) at said h)) (did_one 0 (omega arith) ask.free ask.held)
 
   pub box_refused : {f : Fault} → (says ≡ 0 → ⊥) → (says ≡ ones64 → ⊥) → f ≡ fault presence_wrong (Byte at)
-      → BoxOpens bytes depth values values objects objects at c element size (Refused f)
+      → BoxOpens bytes depth values values objects objects at c element size (Err f)
   box_refused h k e t handles sized ask = rw (e, record_wrong 8 _ _ at c.next c.handles (box_wrong (message t bytes handles) at said h k)) did_stop
 
   box_whole : (t : TypeTable) (handles : ℕ) → size_of t element ≡ size → says ≡ ones64
@@ -59,7 +60,7 @@ module _ (bytes : List ℕ) (depth : ℕ) (values objects : List ℕ) (at : ℕ)
       record_got 8 _ _ at c.next c.handles (box_present m at said h)
       ∙ rw (sized, deeper_anywhere m boxed_object element size (W.levels m depth) at (λ deep below. deep element) (at + 8) at)
 
-  pub box_opened : {values' : List ℕ} (objects' : List ℕ) {d : Cursor} (r : Opened) → says ≡ ones64 → values' ≡ set values c.values 1 → d ≡ gave_one c
+  pub box_opened : {values' : List ℕ} (objects' : List ℕ) {d : Cursor} (r : Result Opened Fault) → says ≡ ones64 → values' ≡ set values c.values 1 → d ≡ gave_one c
       → DeeperOpens bytes depth objects objects' at d boxed_object element size r
       → BoxOpens bytes depth values values' objects objects' at c element size r
   box_opened objects' r h e g opens t handles sized ask =

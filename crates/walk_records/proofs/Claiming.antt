@@ -1,5 +1,6 @@
 -- A claim, and what is walked in the object.
 -- Assumes nothing.
+use Rattle.std.specs.Prelude.{Ok}
 use mathlib.Core.Path.{◌≡◌, refl, sym, ◌∙◌}
 use mathlib.Core.Bool.{Bool, true, false}
 use mathlib.Core.List.{List, [], ◌∷◌}
@@ -16,7 +17,6 @@ use Rattle.rules.specs.Trace.{claimed, object_list}
 use Rattle.rules.specs.Decode as D
 use Rattle.rules.specs.Decode.{Message, Decoded, went, Decoder}
 use Rattle.walk_leaves.specs.declared.cursor.Cursor.{Cursor}
-use Rattle.walk_leaves.specs.declared.cursor.Walked.TheVariants.{On}
 use Rattle.walk_leaves.specs.Doing.{answer, Did}
 use Rattle.walk_leaves.specs.Parts.{claim_at}
 use Rattle.walk_leaves.proofs.Results.{then_then}
@@ -49,14 +49,14 @@ claim_anywhere m kind row size at at' n u = refl
 
 -- A claim that went on took the object with its fill, which lie in the message.
 pub claim_on : {total handles g : ℕ} {v v' o o' : List ℕ} {c e : Cursor} (m : Message) (kind row size at : ℕ)
-    → Did total handles g v v' o o' c (On e) (claim_at kind row size m at c.next c.handles)
+    → Did total handles g v v' o o' c (Ok e) (claim_at kind row size m at c.next c.handles)
     → (e.next ≡ c.next + padded size) × (e.handles ≡ c.handles) × (e.values ≡ c.values) × (e.objects ≡ c.objects + 4) × (c.next + padded size ≤ length m.bytes)
 unfolding claim_at object_list
 claim_on {c = c} {e = e} m kind row size at p =
     go (leb (c.next + padded size) (length m.bytes)) (D.is_zero m (c.next + size) (padded size - size)) _ _ refl p.says
   where
     go : (fits zero : Bool) (g h : Fault) → leb (c.next + padded size) (length m.bytes) ≡ fits
-        → On e ≡ answer c (D.require fits g (D.require zero h (went (c.next + padded size) c.handles [] (claimed kind row c.next size ∷ []))))
+        → Ok e ≡ answer c (D.require fits g (D.require zero h (went (c.next + padded size) c.handles [] (claimed kind row c.next size ∷ []))))
         → (e.next ≡ c.next + padded size) × (e.handles ≡ c.handles) × (e.values ≡ c.values) × (e.objects ≡ c.objects + 4) × (c.next + padded size ≤ length m.bytes)
     go true true g h f q =
         let v : e.values ≡ c.values + 0 = cc in

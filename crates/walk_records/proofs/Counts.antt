@@ -1,5 +1,6 @@
 -- A vector's or a string's record, by the tests that the code makes on it, and what it leads to.
 -- Assumes nothing.
+use Rattle.std.specs.Prelude.{Err, None, Ok, Option, Result, Some}
 use mathlib.Core.Path.{◌≡◌, refl, sym, ◌∙◌}
 use mathlib.Core.Bool.{Bool, true, false}
 use mathlib.Core.List.{List, [], ◌∷◌}
@@ -25,11 +26,9 @@ use Rattle.rules.specs.Records.{Presence, absent, present, neither, presence, un
 use Rattle.rules.specs.Walk as W
 use Rattle.layout.specs.Ready.{some_table}
 use Rattle.walk_leaves.specs.declared.cursor.Cursor.{Cursor}
-use Rattle.walk_records.specs.declared.records.Count.{Count}
-use Rattle.walk_records.specs.declared.records.Count.TheVariants.{Absent, Present, Wrong}
 use Rattle.walk_records.specs.declared.records.Opening.{Opening}
 use Rattle.walk_records.specs.declared.records.Opened.{Opened}
-use Rattle.walk_records.specs.declared.records.Opened.TheVariants.{Closed, Open, Refused}
+use Rattle.walk_records.specs.declared.records.Opened.TheVariants.{Closed, Open}
 use Rattle.walk_leaves.specs.Doing.{message, gave_one, Ask}
 use Rattle.walk_records.specs.Opening.{count_of, HasCount, after_count, counted_at}
 use Rattle.walk_records.specs.Promises.{CountAt, DeeperOpens, CountedOpens, VectorOpens}
@@ -39,32 +38,32 @@ use Rattle.walk_records.proofs.Openings.{record_got, record_wrong, record_same, 
 -- ---- the record, of which `count` and `says` were loaded
 
 module _ (bytes : List ℕ) (optional largest at : ℕ) {count says : ℕ} (counted : count ≡ word bytes at 8) (said : says ≡ word bytes (at + 8) 8) where
-  pub count_absent : says ≡ 0 → optional ≡ 1 → count ≡ 0 → CountAt bytes optional largest at Absent
+  pub count_absent : says ≡ 0 → optional ≡ 1 → count ≡ 0 → CountAt bytes optional largest at (Ok None)
   unfolding read_count presence
   count_absent p q e t handles = simp (← counted, ← said, p, q, e)
 
-  pub count_absent_not_zero : says ≡ 0 → optional ≡ 1 → (count ≡ 0 → ⊥) → {f : Fault} → f ≡ fault absent_not_zero (Byte at) → CountAt bytes optional largest at (Wrong f)
+  pub count_absent_not_zero : says ≡ 0 → optional ≡ 1 → (count ≡ 0 → ⊥) → {f : Fault} → f ≡ fault absent_not_zero (Byte at) → CountAt bytes optional largest at (Err f)
   unfolding read_count presence
   count_absent_not_zero p q e y t handles = simp (← counted, ← said, p, q, ne_eqb _ _ e, y)
 
-  pub count_required : says ≡ 0 → (optional ≡ 1 → ⊥) → {f : Fault} → f ≡ fault required_absent (Byte at) → CountAt bytes optional largest at (Wrong f)
+  pub count_required : says ≡ 0 → (optional ≡ 1 → ⊥) → {f : Fault} → f ≡ fault required_absent (Byte at) → CountAt bytes optional largest at (Err f)
   unfolding read_count presence
   count_required p q y t handles = simp (← counted, ← said, p, ne_eqb _ _ q, y)
 
-  pub count_over : says ≡ ones64 → largest < count → {f : Fault} → f ≡ fault count_over_largest (Byte at) → CountAt bytes optional largest at (Wrong f)
+  pub count_over : says ≡ ones64 → largest < count → {f : Fault} → f ≡ fault count_over_largest (Byte at) → CountAt bytes optional largest at (Err f)
   unfolding read_count presence
   count_over p h y t handles = simp (← counted, ← said, p, lt-leb _ _ h, y)
 
-  pub count_present : says ≡ ones64 → count ≤ largest → CountAt bytes optional largest at (Present count)
+  pub count_present : says ≡ ones64 → count ≤ largest → CountAt bytes optional largest at (Ok (Some count))
   unfolding read_count presence
   count_present p h t handles = simp (← counted, ← said, p, le-leb _ _ h)
 
-  pub count_neither : (says ≡ 0 → ⊥) → (says ≡ ones64 → ⊥) → {f : Fault} → f ≡ fault presence_wrong (Byte at) → CountAt bytes optional largest at (Wrong f)
+  pub count_neither : (says ≡ 0 → ⊥) → (says ≡ ones64 → ⊥) → {f : Fault} → f ≡ fault presence_wrong (Byte at) → CountAt bytes optional largest at (Err f)
   unfolding read_count presence
   count_neither p q y t handles = simp (← counted, ← said, ne_eqb _ _ p, ne_eqb _ _ q, y)
 
 -- A count that is present is not over the largest, so its elements have fewer than 2^48 bytes.
-module _ (bytes : List ℕ) (optional largest at : ℕ) (k : Count) (reads : CountAt bytes optional largest at k) {count : ℕ} (is : k ≡ Present count) where
+module _ (bytes : List ℕ) (optional largest at : ℕ) (k : Result (Option ℕ) Fault) (reads : CountAt bytes optional largest at k) {count : ℕ} (is : k ≡ Ok (Some count)) where
   count_bounded : count ≤ largest
   unfolding read_count
   count_bounded = go (presence ones64 (word bytes (at + 8) 8)) (rw is at (reads some_table 0))
@@ -96,19 +95,19 @@ module _ (bytes : List ℕ) (optional largest at : ℕ) (k : Count) (reads : Cou
 
 -- ---- what it leads to
 
-module _ (bytes : List ℕ) (depth : ℕ) (values objects : List ℕ) (at : ℕ) (c : Cursor) (row size largest optional : ℕ) (k : Count) (reads : CountAt bytes optional largest at k) where
-  read : (t : TypeTable) (handles : ℕ) {is : Count} → k ≡ is → read_count (message t bytes handles) (eqb optional 1) largest at ≡ count_of is
+module _ (bytes : List ℕ) (depth : ℕ) (values objects : List ℕ) (at : ℕ) (c : Cursor) (row size largest optional : ℕ) (k : Result (Option ℕ) Fault) (reads : CountAt bytes optional largest at k) where
+  read : (t : TypeTable) (handles : ℕ) {is : Result (Option ℕ) Fault} → k ≡ is → read_count (message t bytes handles) (eqb optional 1) largest at ≡ count_of is
   read t handles h = rw h at (sym (reads t handles))
 
-  pub counted_closed : {values' : List ℕ} {d : Cursor} → k ≡ Absent → values' ≡ set values c.values 0 → d ≡ gave_one c
-      → CountedOpens bytes depth values values' objects objects at c row size largest optional (Closed d)
+  pub counted_closed : {values' : List ℕ} {d : Cursor} → k ≡ Ok None → values' ≡ set values c.values 0 → d ≡ gave_one c
+      → CountedOpens bytes depth values values' objects objects at c row size largest optional (Ok (Closed d))
   counted_closed is e g t handles fields ask =
       rw (e, g, record_got 16 _ _ at c.next c.handles (read t handles is)) (did_one 0 (omega arith) ask.free ask.held)
 
-  pub counted_refused : {f : Fault} → k ≡ Wrong f → CountedOpens bytes depth values values objects objects at c row size largest optional (Refused f)
+  pub counted_refused : {f : Fault} → k ≡ Err f → CountedOpens bytes depth values values objects objects at c row size largest optional (Err f)
   counted_refused is t handles fields ask = rw (record_wrong 16 _ _ at c.next c.handles (read t handles is)) did_stop
 
-  counted_whole : (count : ℕ) (t : TypeTable) (handles : ℕ) (fields : (count : ℕ) → (ℕ → Decoder) → D.Deeper → Decoder) → k ≡ Present count
+  counted_whole : (count : ℕ) (t : TypeTable) (handles : ℕ) (fields : (count : ℕ) → (ℕ → Decoder) → D.Deeper → Decoder) → k ≡ Ok (Some count)
       → counted_at (message t bytes handles) depth row size largest (eqb optional 1) fields at c.next c.handles
       ≡ D.after ((count + 1) ∷ []) [] (D.one_deeper (W.levels (message t bytes handles) depth) at
       (λ deep below. D.claim (message t bytes handles) vector_object row (count * size) (fields count deep below)) at c.next c.handles)
@@ -117,7 +116,7 @@ module _ (bytes : List ℕ) (depth : ℕ) (values objects : List ℕ) (at : ℕ)
       record_got 16 _ _ at c.next c.handles (read t handles is)
       ∙ rw (add-one, deeper_anywhere m vector_object row (count * size) (W.levels m depth) at (fields count) (at + 16) at)
 
-  pub counted_opened : (count : ℕ) {values' : List ℕ} (objects' : List ℕ) {d : Cursor} (r : Opened) → k ≡ Present count → values' ≡ set values c.values (count + 1) → d ≡ gave_one c
+  pub counted_opened : (count : ℕ) {values' : List ℕ} (objects' : List ℕ) {d : Cursor} (r : Result Opened Fault) → k ≡ Ok (Some count) → values' ≡ set values c.values (count + 1) → d ≡ gave_one c
       → DeeperOpens bytes depth objects objects' at d vector_object row (count * size) r → HasCount count r
       → CountedOpens bytes depth values values' objects objects' at c row size largest optional r
   counted_opened count objects' r is e g opens has t handles fields ask =
@@ -127,8 +126,8 @@ module _ (bytes : List ℕ) (depth : ℕ) (values objects : List ℕ) (at : ℕ)
       (opens_put (length bytes) handles values given objects objects' c _ 4 16 (count + 1) _ _ r (omega arith) (rw g at (opens t given handles (fields count) (ask_gave 16 ask (omega arith) g)))))
 
 -- What lies in the object, once it is open.
-pub counted_ask : (bytes : List ℕ) (depth : ℕ) (values values' objects objects' : List ℕ) (at : ℕ) (c : Cursor) (row size largest optional : ℕ) (r : Opened)
-    → CountedOpens bytes depth values values' objects objects' at c row size largest optional r → {handles : ℕ} → Ask (length bytes) handles 16 at c → {x : Opening} → r ≡ Open x
+pub counted_ask : (bytes : List ℕ) (depth : ℕ) (values values' objects objects' : List ℕ) (at : ℕ) (c : Cursor) (row size largest optional : ℕ) (r : Result Opened Fault)
+    → CountedOpens bytes depth values values' objects objects' at c row size largest optional r → {handles : ℕ} → Ask (length bytes) handles 16 at c → {x : Opening} → r ≡ Ok (Open x)
     → Ask (length bytes) handles (x.count * size) x.start x.cursor
 counted_ask bytes depth values values' objects objects' at c row size largest optional r opens {handles} ask h = (rw h at (opens some_table handles (λ count rows below. D.nothing) ask)).0
 
@@ -139,7 +138,7 @@ after_vector_lem : (m : Message) (depth row element size at p n u v : ℕ) → s
 after_vector_lem m depth row element size at p n u zero e = refl
 after_vector_lem m depth row element size at p n u (suc count) e = rw e
 
-pub vector_opens : (bytes : List ℕ) (depth : ℕ) (values values' objects objects' : List ℕ) (at : ℕ) (c : Cursor) (row size largest optional : ℕ) (r : Opened)
+pub vector_opens : (bytes : List ℕ) (depth : ℕ) (values values' objects objects' : List ℕ) (at : ℕ) (c : Cursor) (row size largest optional : ℕ) (r : Result Opened Fault)
     → CountedOpens bytes depth values values' objects objects' at c row size largest optional r
     → VectorOpens bytes depth values values' objects objects' at c row size largest optional r
 vector_opens bytes depth values values' objects objects' at c row size largest optional r opens t handles element sized ask =

@@ -8,7 +8,7 @@ use lib.ListN.{set}
 use Rattle.rules.specs.Decode as D
 use Rattle.rules.specs.Decode.{Decoded}
 use Rattle.walk_leaves.specs.declared.cursor.Cursor.{Cursor}
-use Rattle.walk_leaves.specs.declared.cursor.Walked.{Walked}
+use Rattle.walk_leaves.specs.Doing.{Walked}
 use Rattle.walk_leaves.specs.Doing.{gave_one, Did, Ask}
 use Rattle.walk_leaves.proofs.Steps.{did_put}
 

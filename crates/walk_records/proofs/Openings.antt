@@ -1,5 +1,6 @@
 -- Records, and the objects that they open: one level down, the claim, and what is left then.
 -- Assumes nothing.
+use Rattle.std.specs.Prelude.{Err, Ok, Result}
 use mathlib.Core.Path.{◌≡◌, refl, ap}
 use mathlib.Core.Bool.{false}
 use mathlib.Core.List.{List, [], ◌∷◌}
@@ -18,11 +19,10 @@ use Rattle.rules.specs.Walk as W
 use Rattle.rules.proofs.Bytes.{padded_above}
 use Rattle.layout.specs.Ready.{some_table}
 use Rattle.walk_leaves.specs.declared.cursor.Cursor.{Cursor}
-use Rattle.walk_leaves.specs.declared.cursor.Walked.{Walked}
-use Rattle.walk_leaves.specs.declared.cursor.Walked.TheVariants.{On}
+use Rattle.walk_leaves.specs.Doing.{Walked}
 use Rattle.walk_records.specs.declared.records.Opening.{Opening}
 use Rattle.walk_records.specs.declared.records.Opened.{Opened}
-use Rattle.walk_records.specs.declared.records.Opened.TheVariants.{Closed, Open, Refused}
+use Rattle.walk_records.specs.declared.records.Opened.TheVariants.{Closed, Open}
 use Rattle.walk_leaves.specs.Doing.{message, gave_one, Did, Ask}
 use Rattle.walk_leaves.specs.Parts.{claim_at, DidObjects}
 use Rattle.walk_records.specs.Opening.{AskBytes, Opens, HasCount}
@@ -71,14 +71,14 @@ module _ (m : Message) (kind row size : ℕ) where
 -- ---- one level down, and a claim there
 
 module _ (bytes : List ℕ) (depth : ℕ) (objects : List ℕ) (at : ℕ) (c : Cursor) (kind row size : ℕ) where
-  pub deeper_spent : {f : Fault} → depth ≡ 0 → f ≡ fault too_deep (Byte at) → DeeperOpens bytes depth objects objects at c kind row size (Refused f)
+  pub deeper_spent : {f : Fault} → depth ≡ 0 → f ≡ fault too_deep (Byte at) → DeeperOpens bytes depth objects objects at c kind row size (Err f)
   deeper_spent h e t values handles fields ask = rw (e, levels_spent (message t bytes handles) depth h) did_stop
 
   module _ {objects' : List ℕ} {w : Walked} (down : depth ≡ 0 → ⊥) (claims : DidObjects bytes objects objects' 4 0 c w (claim_at kind row size)) where
-    pub deeper_opened : (count : ℕ) {d : Cursor} → w ≡ On d → DeeperOpens bytes depth objects objects' at c kind row size (Open (record { count = count; start = c.next; cursor = d }))
+    pub deeper_opened : (count : ℕ) {d : Cursor} → w ≡ Ok d → DeeperOpens bytes depth objects objects' at c kind row size (Ok (Open (record { count = count; start = c.next; cursor = d })))
     deeper_opened count {d} e t values handles fields ask =
         let m = message t bytes handles in
-        let did : Did (length bytes) handles 4 values values objects objects' c (On d) (claim_at kind row size m 0 c.next c.handles) =
+        let did : Did (length bytes) handles 4 values values objects objects' c (Ok d) (claim_at kind row size m 0 c.next c.handles) =
         rw e at (claims t values handles ask.free ask.held)
         in
         let took = claim_on m kind row size 0 did in
@@ -97,14 +97,14 @@ module _ (bytes : List ℕ) (depth : ℕ) (objects : List ℕ) (at : ℕ) (c : C
           did.rises,
         )
 
-    pub deeper_refused : {f : Fault} → w ≡ Walked.Refused f → DeeperOpens bytes depth objects objects' at c kind row size (Refused f)
+    pub deeper_refused : {f : Fault} → w ≡ Err f → DeeperOpens bytes depth objects objects' at c kind row size (Err f)
     deeper_refused e t values handles fields ask =
         let m = message t bytes handles in
         rw (levels_down m depth down, claim_then m kind row size, claim_anywhere m kind row size at 0) (did_halt 4 _ (rw e at (claims t values handles ask.free ask.held)))
 
 -- What lies in an object that is open, after a claim,
-pub deeper_ask : (bytes : List ℕ) (depth : ℕ) (objects objects' : List ℕ) (at : ℕ) (c : Cursor) (kind row size : ℕ) (r : Opened) → DeeperOpens bytes depth objects objects' at c kind row size r
-    → {handles : ℕ} → Ask (length bytes) handles 4 at c → {x : Opening} → r ≡ Open x → Ask (length bytes) handles size x.start x.cursor
+pub deeper_ask : (bytes : List ℕ) (depth : ℕ) (objects objects' : List ℕ) (at : ℕ) (c : Cursor) (kind row size : ℕ) (r : Result Opened Fault) → DeeperOpens bytes depth objects objects' at c kind row size r
+    → {handles : ℕ} → Ask (length bytes) handles 4 at c → {x : Opening} → r ≡ Ok (Open x) → Ask (length bytes) handles size x.start x.cursor
 deeper_ask bytes depth objects objects' at c kind row size r opens {handles} ask h = (rw h at (opens some_table [] handles (λ rows below. D.nothing) ask)).0
 
 -- and before one, after a value number.
@@ -134,21 +134,21 @@ ask_bytes ask = record {
 
 -- ---- an answer that is handed on
 
-pub opened_count : (count : ℕ) (r : Opened) {x : Opening} → HasCount count r → r ≡ Open x → x.count ≡ count
+pub opened_count : (count : ℕ) (r : Result Opened Fault) {x : Opening} → HasCount count r → r ≡ Ok (Open x) → x.count ≡ count
 opened_count count r h e = rw e at h
 
 module _ (total handles : ℕ) (v v' o o' : List ℕ) (c : Cursor) (whole : Decoded) where
   -- After a value number,
-  pub opens_put : (g h x : ℕ) (need : Opening → ℕ) (left : Opening → Decoded) (r : Opened) → 1 + g ≤ h
+  pub opens_put : (g h x : ℕ) (need : Opening → ℕ) (left : Opening → Decoded) (r : Result Opened Fault) → 1 + g ≤ h
       → Opens total handles g (set v c.values x) v' o o' (gave_one c) whole need left r → Opens total handles h v v' o o' c (D.after (x ∷ []) [] whole) need left r
-  opens_put g h x need left (Closed e) k p = did_put h c x p k
-  opens_put g h x need left (Refused f) k p = did_put h c x p k
-  opens_put g h x need left (Open y) k p = (p.0, λ v₁ o₁ r q. did_put h c x (p.1 v₁ o₁ r q) k, p.2)
+  opens_put g h x need left (Ok (Closed e)) k p = did_put h c x p k
+  opens_put g h x need left (Err f) k p = did_put h c x p k
+  opens_put g h x need left (Ok (Open y)) k p = (p.0, λ v₁ o₁ r q. did_put h c x (p.1 v₁ o₁ r q) k, p.2)
 
   -- and with what is left said by the opening's own count.
   pub opens_same : (g count : ℕ) {need need' : Opening → ℕ} {left left' : Opening → Decoded}
       → ((x : Opening) → x.count ≡ count → need x ≡ need' x) → ((x : Opening) → x.count ≡ count → left x ≡ left' x)
-      → (r : Opened) → HasCount count r → Opens total handles g v v' o o' c whole need left r → Opens total handles g v v' o o' c whole need' left' r
-  opens_same g count f k (Closed e) h p = p
-  opens_same g count f k (Refused e) h p = p
-  opens_same g count f k (Open x) h p = rw (f x h, k x h) at p
+      → (r : Result Opened Fault) → HasCount count r → Opens total handles g v v' o o' c whole need left r → Opens total handles g v v' o o' c whole need' left' r
+  opens_same g count f k (Ok (Closed e)) h p = p
+  opens_same g count f k (Err e) h p = p
+  opens_same g count f k (Ok (Open x)) h p = rw (f x h, k x h) at p

@@ -1,5 +1,6 @@
 -- A known payload: what its envelope leads to, and what seals it.
 -- Assumes nothing.
+use Rattle.std.specs.Prelude.{Err, Ok, Result}
 use mathlib.Core.Path.{◌≡◌, refl, sym, ap, ◌∙◌}
 use mathlib.Core.List.{List, []}
 use Prim.Native.Nat.{ℕ, ◌+◌, ◌-◌, ◌≤◌, ◌<◌}
@@ -19,8 +20,7 @@ use Rattle.rules.specs.Decode.{Message, Decoded, went, Decoder}
 use Rattle.rules.specs.Envelope.{in_line, out_of_line, low_word, handle_number, flags, flagged, byte_numbered, content_of_eight_bytes}
 use Rattle.rules.specs.Walk as W
 use Rattle.walk_leaves.specs.declared.cursor.Cursor.{Cursor}
-use Rattle.walk_leaves.specs.declared.cursor.Walked.{Walked}
-use Rattle.walk_leaves.specs.declared.cursor.Walked.TheVariants.{On, Refused}
+use Rattle.walk_leaves.specs.Doing.{Walked}
 use Rattle.walk_records.specs.declared.records.Opened.{Opened}
 use Rattle.walk_records.specs.declared.records.Opened.TheVariants.{Closed, Open}
 use Rattle.walk_leaves.specs.Doing.{message, Did, Ask}
@@ -36,17 +36,17 @@ use Rattle.words.proofs.Fill.{zeros_at_most}
 
 module _ (t : TypeTable) (bytes values objects : List ℕ) (handles at used : ℕ) (c : Cursor) {number : ℕ} (e : number ≡ word bytes (at + 4) 2) where
   pub handles_right : number ≡ c.handles - used → c.next ≤ length bytes → c.handles ≤ handles
-      → Did (length bytes) handles 0 values values objects objects c (On c) (handles_sealed (message t bytes handles) at used c.next c.handles)
+      → Did (length bytes) handles 0 values values objects objects c (Ok c) (handles_sealed (message t bytes handles) at used c.next c.handles)
   handles_right q h k = rw (← e, eq-eqb _ _ q) (did_nothing h k)
 
-  pub handles_wrong : {r : Walked} → (number ≡ c.handles - used → ⊥) → r ≡ Refused (fault handle_number_wrong (Byte at))
+  pub handles_wrong : {r : Walked} → (number ≡ c.handles - used → ⊥) → r ≡ Err (fault handle_number_wrong (Byte at))
       → Did (length bytes) handles 0 values values objects objects c r (handles_sealed (message t bytes handles) at used c.next c.handles)
   handles_wrong n y = rw (← e, ne_eqb _ _ n, y) did_stop
 
 module _ (t : TypeTable) (bytes values objects : List ℕ) (handles size at next used : ℕ) (c : Cursor) {r : Walked} where
   -- in line,
   module _ {zeros : ℕ} (small : size ≤ 4) (e : zeros ≡ leading_zeros (part bytes (at + size) (4 - size))) where
-    pub fill_wrong : zeros < 4 - size → r ≡ Refused (fault fill_not_zero (Byte (at + size + zeros)))
+    pub fill_wrong : zeros < 4 - size → r ≡ Err (fault fill_not_zero (Byte (at + size + zeros)))
         → Did (length bytes) handles 0 values values objects objects c r (sealed_at (message t bytes handles) size at next used c.next c.handles)
     unfolding sealed_at D.fill
     fill_wrong h y = rw (le-leb _ _ small, ← e, ne_eqb zeros (4 - size) (λ q. omega arith), y) did_stop
@@ -61,7 +61,7 @@ module _ (t : TypeTable) (bytes values objects : List ℕ) (handles size at next
 
   -- and out of line.
   module _ {number : ℕ} (large : 4 < size) (e : number ≡ word bytes at 4) where
-    pub bytes_wrong : (number ≡ c.next - next → ⊥) → r ≡ Refused (fault byte_number_wrong (Byte at))
+    pub bytes_wrong : (number ≡ c.next - next → ⊥) → r ≡ Err (fault byte_number_wrong (Byte at))
         → Did (length bytes) handles 0 values values objects objects c r (sealed_at (message t bytes handles) size at next used c.next c.handles)
     unfolding sealed_at
     bytes_wrong n y = rw (lt-leb _ _ large, ← e, ne_eqb _ _ n, y) did_stop
@@ -130,16 +130,16 @@ module _ (t : TypeTable) (bytes values objects : List ℕ) (handles depth row pa
   in_line_lem h = rw q (known_in_line (message t bytes handles) (W.levels (message t bytes handles) depth) row payload at c.next c.handles e h)
 
   pub in_line_wrong : {f : Fault} → size ≤ 4 → (form ≡ in_line → ⊥) → f ≡ fault envelope_form_wrong (Byte at)
-      → Did (length bytes) handles 7 values values objects objects c (Refused f) (known_at t bytes handles depth row payload at c)
+      → Did (length bytes) handles 7 values values objects objects c (Err f) (known_at t bytes handles depth row payload at c)
   in_line_wrong h k y = rw (in_line_lem h, ne_eqb _ _ k, y) did_stop
 
   pub in_line_too_deep : {f : Fault} → size ≤ 4 → form ≡ in_line → depth ≡ 0 → f ≡ fault too_deep (Byte at)
-      → Did (length bytes) handles 7 values values objects objects c (Refused f) (known_at t bytes handles depth row payload at c)
+      → Did (length bytes) handles 7 values values objects objects c (Err f) (known_at t bytes handles depth row payload at c)
   in_line_too_deep h k d y = rw (in_line_lem h, eq-eqb _ _ k, levels_spent _ depth d, y) did_stop
 
   pub in_line_open : size ≤ 4 → form ≡ in_line → (depth ≡ 0 → ⊥) → Ask (length bytes) handles 7 at c
       → Opens (length bytes) handles 7 values values objects objects c (known_at t bytes handles depth row payload at c)
-      (λ x. size) (payload_of (message t bytes handles) depth payload size at c.next c.handles) (Open (record { count = 1; start = at; cursor = c }))
+      (λ x. size) (payload_of (message t bytes handles) depth payload size at c.next c.handles) (Ok (Open (record { count = 1; start = at; cursor = c })))
   in_line_open h k d a =
       rw (in_line_lem h, eq-eqb _ _ k, levels_down _ depth d)
       (record { short = a.short; few = a.few; inside = omega arith; free = a.free; held = a.held; small = omega arith }, λ v o r p. did_more 7 (omega arith) p, (omega arith, omega arith))
@@ -156,10 +156,10 @@ module _ (t : TypeTable) (bytes values objects : List ℕ) (handles depth row pa
       ∙ rw (deeper_followed (message t bytes handles) payload_object payload size payload))
 
   pub out_of_line_wrong : {f : Fault} → 4 < size → (form ≡ out_of_line → ⊥) → f ≡ fault envelope_form_wrong (Byte at)
-      → Did (length bytes) handles 7 values values objects objects c (Refused f) (known_at t bytes handles depth row payload at c)
+      → Did (length bytes) handles 7 values values objects objects c (Err f) (known_at t bytes handles depth row payload at c)
   out_of_line_wrong h k y = rw (out_of_line_lem h, ne_eqb _ _ k, y) did_stop
 
-  pub out_of_line_open : (objects' : List ℕ) (r : Opened) → 4 < size → form ≡ out_of_line → DeeperOpens bytes depth objects objects' at c payload_object payload size r → Ask (length bytes) handles 7 at c
+  pub out_of_line_open : (objects' : List ℕ) (r : Result Opened Fault) → 4 < size → form ≡ out_of_line → DeeperOpens bytes depth objects objects' at c payload_object payload size r → Ask (length bytes) handles 7 at c
       → Opens (length bytes) handles 7 values values objects objects' c (known_at t bytes handles depth row payload at c)
       (λ x. size) (payload_of (message t bytes handles) depth payload size at c.next c.handles) r
   out_of_line_open objects' r h k p a =
@@ -169,13 +169,13 @@ module _ (t : TypeTable) (bytes values objects : List ℕ) (handles depth row pa
       fields : (ℕ → Decoder) → D.Deeper → Decoder
       fields F b at' n u = D.and_then (F payload at' n u) (λ n' u'. sealed_at (message t bytes handles) size at c.next c.handles n' u')
 
-      more : (r : Opened)
+      more : (r : Result Opened Fault)
           → Opens (length bytes) handles 4 values values objects objects' c
           (D.one_deeper (W.levels (message t bytes handles) depth) at (λ F b. D.claim (message t bytes handles) payload_object payload size (fields F b)) at c.next c.handles)
           (λ x. size) (payload_of (message t bytes handles) depth payload size at c.next c.handles) r
           → Opens (length bytes) handles 7 values values objects objects' c
           (D.one_deeper (W.levels (message t bytes handles) depth) at (λ F b. D.claim (message t bytes handles) payload_object payload size (fields F b)) at c.next c.handles)
           (λ x. size) (payload_of (message t bytes handles) depth payload size at c.next c.handles) r
-      more (Closed d) s = did_more 7 (omega arith) s
-      more (Opened.Refused f) s = did_more 7 (omega arith) s
-      more (Open x) s = (s.0, λ v o w d. did_more 7 (omega arith) (s.1 v o w d), s.2)
+      more (Ok (Closed d)) s = did_more 7 (omega arith) s
+      more (Err f) s = did_more 7 (omega arith) s
+      more (Ok (Open x)) s = (s.0, λ v o w d. did_more 7 (omega arith) (s.1 v o w d), s.2)

@@ -1,5 +1,6 @@
 -- A string: its text's numbers are the bytes, judged once they are given.
 -- Assumes nothing.
+use Rattle.std.specs.Prelude.{Err, Ok, Result}
 use mathlib.Core.Path.{◌≡◌, refl, sym, ◌∙◌, ap}
 use mathlib.Core.Bool.{Bool}
 use mathlib.Core.List.{List, []}
@@ -20,13 +21,10 @@ use Rattle.rules.specs.Records.{read_number, read_count}
 use Rattle.rules.specs.Envelope.{decode_word}
 use Rattle.rules.specs.Walk as W
 use Rattle.rules.proofs.Text.{broken_inside}
-use Rattle.text.specs.declared.Text as Judged
-use Rattle.text.specs.declared.Text.TheVariants.{Valid, Broken}
 use Rattle.text.specs.Answers.{text_of}
 use Rattle.words.proofs.Loads.{part_cons, word_byte}
 use Rattle.walk_leaves.specs.declared.cursor.Cursor.{Cursor}
-use Rattle.walk_leaves.specs.declared.cursor.Walked.{Walked}
-use Rattle.walk_leaves.specs.declared.cursor.Walked.TheVariants.{On, Refused}
+use Rattle.walk_leaves.specs.Doing.{Walked}
 use Rattle.walk_records.specs.declared.records.Opening.{Opening}
 use Rattle.walk_records.specs.declared.records.Opened.{Opened}
 use Rattle.walk_records.specs.declared.records.Opened.TheVariants.{Closed, Open}
@@ -49,24 +47,24 @@ numbers_bytes m index (suc count) at n u h =
 
 -- A text is judged once its numbers are given.
 did_judged : {total handles g : ℕ} {v v' o o' : List ℕ} {c e : Cursor} {d : Decoded} (start : ℕ) (r : Text) {n u : ℕ} {vs : List ℕ} {t : List Event}
-    → d ≡ went n u vs t → r ≡ utf8 vs → Did total handles g v v' o o' c (On e) d
+    → d ≡ went n u vs t → r ≡ utf8 vs → Did total handles g v v' o o' c (Ok e) d
     → Did total handles g v v' o o' c (text_judged r start e) (D.require_after (λ n₁ u₁ values. is_utf8 values) (W.bad_text start (D.values_of d)) d)
 unfolding is_utf8 broken_at
 did_judged start text y h p = rw (y, ← h) (rw y at p)
 did_judged {total} {handles} {g} {v} {v'} {o} {o'} {c} {e} start (broken offset) {n} {u} {vs} {t} y h p =
-    let q : Did total handles g v v' o o' c (On e) (went n u vs t) = rw y at p in
+    let q : Did total handles g v v' o o' c (Ok e) (went n u vs t) = rw y at p in
     rw (y, ← h) (record { says = refl; valued = q.valued; listed = q.listed; within = tt; rises = tt })
 
 -- What the test of a text says of it, as the code has it.
-module _ (bytes : List ℕ) (start count : ℕ) {judgement : Judged.Text} (is : text_of judgement ≡ utf8 (part bytes start count)) where
-  pub valid_judged : (c : Cursor) → judgement ≡ Valid → On c ≡ text_judged (utf8 (part bytes start count)) start c
+module _ (bytes : List ℕ) (start count : ℕ) {judgement : Result (Unit {0}) ℕ} (is : text_of judgement ≡ utf8 (part bytes start count)) where
+  pub valid_judged : (c : Cursor) → judgement ≡ (Ok tt) → Ok c ≡ text_judged (utf8 (part bytes start count)) start c
   valid_judged c h = rw (← is, h)
 
-  pub broken_judged : {w : Walked} (c : Cursor) {offset : ℕ} → judgement ≡ Broken offset → w ≡ Refused (fault text_not_utf8 (Byte (start + offset)))
+  pub broken_judged : {w : Walked} (c : Cursor) {offset : ℕ} → judgement ≡ Err offset → w ≡ Err (fault text_not_utf8 (Byte (start + offset)))
       → w ≡ text_judged (utf8 (part bytes start count)) start c
   broken_judged c h y = rw (← is, h) y
 
-  pub broken_place : {offset : ℕ} → judgement ≡ Broken offset → start + offset < length bytes
+  pub broken_place : {offset : ℕ} → judgement ≡ Err offset → start + offset < length bytes
   unfolding part
   broken_place h = omega (arith, simp (length-take, length-drop) at (broken_inside (part bytes start count) (sym is ∙ ap text_of h)))
 
@@ -84,27 +82,27 @@ string_counted : (m : Message) (depth row largest : ℕ) (optional : Bool) (at n
 string_counted m depth row largest optional at n u =
     record_same 16 (read_count m optional largest) (W.after_string m (W.levels m depth) row) at n u _ (after_string_lem m depth row at (at + 16) n u)
 
-module _ (bytes : List ℕ) (depth : ℕ) (values values' objects objects' : List ℕ) (at : ℕ) (c : Cursor) (row largest optional : ℕ) (r : Opened)
+module _ (bytes : List ℕ) (depth : ℕ) (values values' objects objects' : List ℕ) (at : ℕ) (c : Cursor) (row largest optional : ℕ) (r : Result Opened Fault)
     (opens : CountedOpens bytes depth values values' objects objects' at c row 1 largest optional r) where
-  pub string_closed : {e : Cursor} → r ≡ Closed e → StringDid bytes depth values values' objects objects' at c row largest optional (On e)
+  pub string_closed : {e : Cursor} → r ≡ Ok (Closed e) → StringDid bytes depth values values' objects objects' at c row largest optional (Ok e)
   string_closed h t handles ask =
       let m = message t bytes handles in
       rw (string_counted m depth row largest (eqb optional 1) at) (rw h at (opens t handles (checked_text m) ask))
 
-  pub string_refused : {f : Fault} → r ≡ Opened.Refused f → StringDid bytes depth values values' objects objects' at c row largest optional (Refused f)
+  pub string_refused : {f : Fault} → r ≡ Err f → StringDid bytes depth values values' objects objects' at c row largest optional (Err f)
   string_refused h t handles ask =
       let m = message t bytes handles in
       rw (string_counted m depth row largest (eqb optional 1) at) (rw h at (opens t handles (checked_text m) ask))
 
   -- What the text's numbers ask for.
-  module _ {x : Opening} (opened : r ≡ Open x) where
+  module _ {x : Opening} (opened : r ≡ Ok (Open x)) where
     pub string_inside : AskBytes (length bytes) 16 at c → x.start + x.count * 1 ≤ 65536
     string_inside asked = let ask = counted_ask bytes depth values values' objects objects' at c row 1 largest optional r opens asked opened in omega arith
 
     pub string_room : AskBytes (length bytes) 16 at c → x.cursor.values < 4294967296
     string_room asked = let ask = counted_ask bytes depth values values' objects objects' at c row 1 largest optional r opens asked opened in omega arith
 
-  module _ {x : Opening} (opened : r ≡ Open x) {values'' : List ℕ} {e : Cursor} (given : DidValues bytes values' values'' x.count x.start x.cursor (On e) (numbers_at 1 x.count)) where
+  module _ {x : Opening} (opened : r ≡ Ok (Open x)) {values'' : List ℕ} {e : Cursor} (given : DidValues bytes values' values'' x.count x.start x.cursor (Ok e) (numbers_at 1 x.count)) where
     pub string_judged : {w : Walked} → w ≡ text_judged (utf8 (part bytes x.start x.count)) x.start e → StringDid bytes depth values values'' objects objects' at c row largest optional w
     unfolding numbers_at checked_text D.checked
     string_judged y t handles ask =

@@ -1,5 +1,6 @@
 -- A table's record, by the tests that the code makes, its last envelope, and what is left then.
 -- Assumes nothing.
+use Rattle.std.specs.Prelude.{Err, Ok, Result}
 use mathlib.Core.Path.{◌≡◌, refl, sym, ◌∙◌}
 use mathlib.Core.Bool.{not}
 use mathlib.Core.List.{List, [], ◌∷◌}
@@ -23,10 +24,10 @@ use Rattle.rules.specs.Envelope.{content_of_eight_bytes}
 use Rattle.rules.specs.Walk as W
 use Rattle.rules.proofs.Edition.{envelope_size_lem, content_read}
 use Rattle.walk_leaves.specs.declared.cursor.Cursor.{Cursor}
-use Rattle.walk_leaves.specs.declared.cursor.Walked.{Walked}
+use Rattle.walk_leaves.specs.Doing.{Walked}
 use Rattle.walk_records.specs.declared.records.Opening.{Opening}
 use Rattle.walk_records.specs.declared.records.Opened.{Opened}
-use Rattle.walk_records.specs.declared.records.Opened.TheVariants.{Closed, Open, Refused}
+use Rattle.walk_records.specs.declared.records.Opened.TheVariants.{Closed, Open}
 use Rattle.walk_leaves.specs.Doing.{message, gave_one, Ask}
 use Rattle.walk_records.specs.Opening.{AskBytes, Opens, HasCount, table_at}
 use Rattle.walk_records.specs.Promises.{DeeperOpens, EnvelopesOpen, TableOpens}
@@ -68,18 +69,18 @@ last_judged m size (suc count) envelopes at n u h = let e : suc count - 1 ≡ co
 -- ---- the envelopes, one level deeper
 
 module _ (bytes : List ℕ) (depth : ℕ) (objects : List ℕ) (at : ℕ) (c : Cursor) (row count : ℕ) where
-  pub envelopes_spent : {f : Fault} → depth ≡ 0 → f ≡ fault too_deep (Byte at) → EnvelopesOpen bytes depth objects objects at c row count (Refused f)
+  pub envelopes_spent : {f : Fault} → depth ≡ 0 → f ≡ fault too_deep (Byte at) → EnvelopesOpen bytes depth objects objects at c row count (Err f)
   envelopes_spent h e t values handles envelopes ask = deeper_spent bytes depth objects at c envelopes_object row (count * 8) h e t values handles _ ask
 
   -- So many fit in no message.
   pub envelopes_over : {f : Fault} → (depth ≡ 0 → ⊥) → 8192 < count → f ≡ fault object_does_not_fit (Byte c.next)
-      → EnvelopesOpen bytes depth objects objects at c row count (Refused f)
+      → EnvelopesOpen bytes depth objects objects at c row count (Err f)
   envelopes_over h over e t values handles envelopes ask =
       let m = message t bytes handles in
       let longer : length bytes < count * 8 = omega arith in
       rw (e, levels_down m depth h, claim_over m envelopes_object row (count * 8) _ at c.next c.handles longer) did_stop
 
-  module _ (objects' : List ℕ) (r : Opened) (opens : DeeperOpens bytes depth objects objects' at c envelopes_object row (count * 8) r) where
+  module _ (objects' : List ℕ) (r : Result Opened Fault) (opens : DeeperOpens bytes depth objects objects' at c envelopes_object row (count * 8) r) where
     judged : (t : TypeTable) (values : List ℕ) (handles : ℕ) (envelopes : D.Deeper → Decoder) → Ask (length bytes) handles 4 at c
         → Opens (length bytes) handles 4 values values objects objects' c
         (D.one_deeper (W.levels (message t bytes handles) depth) at
@@ -88,31 +89,31 @@ module _ (bytes : List ℕ) (depth : ℕ) (objects : List ℕ) (at : ℕ) (c : C
         (λ x. D.last_present (message t bytes handles) 8 count (envelopes (W.levels (message t bytes handles) (depth - 1))) x.start x.cursor.next x.cursor.handles) r
     judged t values handles envelopes ask = opens t values handles (λ F b. D.last_present (message t bytes handles) 8 count (envelopes b)) ask
 
-    pub envelopes_closed : {e : Cursor} → r ≡ Closed e → EnvelopesOpen bytes depth objects objects' at c row count (Closed e)
+    pub envelopes_closed : {e : Cursor} → r ≡ Ok (Closed e) → EnvelopesOpen bytes depth objects objects' at c row count (Ok (Closed e))
     envelopes_closed h t values handles envelopes ask = rw h at (judged t values handles envelopes ask)
 
-    pub envelopes_refused : {f : Fault} → r ≡ Refused f → EnvelopesOpen bytes depth objects objects' at c row count (Refused f)
+    pub envelopes_refused : {f : Fault} → r ≡ Err f → EnvelopesOpen bytes depth objects objects' at c row count (Err f)
     envelopes_refused h t values handles envelopes ask = rw h at (judged t values handles envelopes ask)
 
-    module _ {x : Opening} (opened : r ≡ Open x) where
+    module _ {x : Opening} (opened : r ≡ Ok (Open x)) where
       pub last_fits : AskBytes (length bytes) 4 at c → Fits w64 (x.start + (count - 1) * 8)
       last_fits asked = let ask = deeper_ask bytes depth objects objects' at c envelopes_object row (count * 8) r opens asked opened in omega arith
 
       pub envelopes_last_zero : {f : Fault} {last : ℕ} → 0 < count → last ≡ word bytes (x.start + (count - 1) * 8) 8 → last ≡ 0
-          → f ≡ fault last_envelope_zero (Byte (x.start + (count - 1) * 8)) → EnvelopesOpen bytes depth objects objects' at c row count (Refused f)
+          → f ≡ fault last_envelope_zero (Byte (x.start + (count - 1) * 8)) → EnvelopesOpen bytes depth objects objects' at c row count (Err f)
       envelopes_last_zero {f} some loaded z e t values handles envelopes ask =
           let m = message t bytes handles in
           let o = rw opened at (judged t values handles envelopes ask) in
           let inside : x.start + (count - 1) * 8 + 8 ≤ length bytes = omega (arith, o.0.inside) in
           let zeros = zero_word m.bytes (x.start + (count - 1) * 8) 8 inside (sym loaded ∙ z) in
-          o.1 values objects' (Walked.Refused f) (rw (e, last_judged m 8 count, zeros) did_stop)
+          o.1 values objects' (Err f) (rw (e, last_judged m 8 count, zeros) did_stop)
 
-      pub envelopes_none : count ≤ 0 → EnvelopesOpen bytes depth objects objects' at c row count (Open x)
+      pub envelopes_none : count ≤ 0 → EnvelopesOpen bytes depth objects objects' at c row count (Ok (Open x))
       envelopes_none none t values handles envelopes ask =
           rw (last_none (message t bytes handles) 8 count) at (rw opened at (judged t values handles envelopes ask))
 
       pub envelopes_last_present : {last : ℕ} → 0 < count → last ≡ word bytes (x.start + (count - 1) * 8) 8 → (last ≡ 0 → ⊥)
-          → EnvelopesOpen bytes depth objects objects' at c row count (Open x)
+          → EnvelopesOpen bytes depth objects objects' at c row count (Ok (Open x))
       envelopes_last_present some loaded z t values handles envelopes ask =
           let m = message t bytes handles in
           let o = rw opened at (judged t values handles envelopes ask) in
@@ -128,12 +129,12 @@ envelopes_in m row content count below =
 
 module _ (bytes : List ℕ) (depth : ℕ) (values objects : List ℕ) (at : ℕ) (c : Cursor) (row : ℕ) {count says : ℕ}
     (counted : count ≡ word bytes at 8) (said : says ≡ word bytes (at + 8) 8) where
-  pub table_absent : {f : Fault} → says ≡ 0 → f ≡ fault required_absent (Byte at) → TableOpens bytes depth values values objects objects at c row (Refused f)
+  pub table_absent : {f : Fault} → says ≡ 0 → f ≡ fault required_absent (Byte at) → TableOpens bytes depth values values objects objects at c row (Err f)
   table_absent p e t handles content edition ask =
       rw (e, record_wrong 16 _ _ at c.next c.handles (read_absent (message t bytes handles) at counted said p)) did_stop
 
   pub table_neither : {f : Fault} → (says ≡ 0 → ⊥) → (says ≡ ones64 → ⊥) → f ≡ fault presence_wrong (Byte at)
-      → TableOpens bytes depth values values objects objects at c row (Refused f)
+      → TableOpens bytes depth values values objects objects at c row (Err f)
   table_neither p q e t handles content edition ask =
       rw (e, record_wrong 16 _ _ at c.next c.handles (read_neither (message t bytes handles) at counted said p q)) did_stop
 
@@ -148,7 +149,7 @@ module _ (bytes : List ℕ) (depth : ℕ) (values objects : List ℕ) (at : ℕ)
       record_got 16 _ _ at c.next c.handles (read_present m at counted said is)
       ∙ rw (envelope_size_lem edition, content_read edition, deeper_anywhere m envelopes_object row (count * 8) (W.levels m depth) at (λ F b. D.last_present m 8 count (envelopes_in m row content count b)) (at + 16) at)
 
-  pub table_opened : {values' : List ℕ} (objects' : List ℕ) {d : Cursor} (r : Opened) → says ≡ ones64 → values' ≡ set values c.values count → d ≡ gave_one c
+  pub table_opened : {values' : List ℕ} (objects' : List ℕ) {d : Cursor} (r : Result Opened Fault) → says ≡ ones64 → values' ≡ set values c.values count → d ≡ gave_one c
       → EnvelopesOpen bytes depth objects objects' at d row count r → HasCount count r → TableOpens bytes depth values values' objects objects' at c row r
   unfolding envelopes_in
   table_opened objects' r is e g opens has t handles content edition ask =

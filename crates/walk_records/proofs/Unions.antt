@@ -1,6 +1,6 @@
 -- A union's ordinal, and what it leads to.
 -- Assumes nothing.
-use Rattle.std.specs.Prelude.{if◌then◌else◌}
+use Rattle.std.specs.Prelude.{is_some, Some, None, if◌then◌else◌, Err, Ok, Option, Result}
 use mathlib.Core.Path.{◌≡◌, refl, sym, ◌∙◌}
 use mathlib.Core.Bool.{Bool, true, false, ◌||◌}
 use mathlib.Core.List.{List, [], ◌∷◌}
@@ -21,15 +21,13 @@ use Rattle.rules.specs.Decode.{Decoded, went, stopped, got}
 use Rattle.rules.specs.Records.{is_known, read_if, unless, read_number}
 use Rattle.rules.specs.Envelope.{content_of_eight_bytes}
 use Rattle.rules.specs.Walk as W
-use Rattle.ordinals.specs.declared.Ordinal.{Ordinal}
 use Rattle.ordinals.specs.Ordinals.{ordinal_is, ContentIs, halved, Rising, OrdinalFits}
 use Rattle.rules.proofs.Edition.{envelope_size_lem, content_read}
 use Rattle.ordinals.proofs.Ordinals.{halved_content}
 use Rattle.ordinals.proofs.Members.{MembersRise, ordinal_fits}
 use Rattle.walk_leaves.specs.declared.cursor.Cursor.{Cursor}
-use Rattle.walk_leaves.specs.declared.cursor.Walked.TheVariants.{On, Refused}
 use Rattle.walk_records.specs.declared.envelopes.Member.{Member}
-use Rattle.walk_records.specs.declared.envelopes.Member.TheVariants.{Some}
+use Rattle.walk_records.specs.declared.envelopes.Member.TheVariants.{Present}
 use Rattle.walk_leaves.specs.Doing.{message, Did, Ask}
 use Rattle.walk_records.specs.Opening.{OpensMember, union_at}
 use Rattle.walk_records.specs.Promises.{MemberIs}
@@ -46,13 +44,13 @@ union_of t bytes handles depth row first count form at c =
 
 module _ (t : TypeTable) (bytes values objects : List ℕ) (handles depth row first count form at : ℕ) (c : Cursor) {ordinal : ℕ} (e : ordinal ≡ word bytes at 8) (z : ordinal ≡ 0) where
   pub union_required : {f : Fault} → form % 2 ≡ 0 → f ≡ fault required_absent (Byte at)
-      → Did (length bytes) handles 16 values values objects objects c (Refused f) (union_of t bytes handles depth row first count form at c)
+      → Did (length bytes) handles 16 values values objects objects c (Err f) (union_of t bytes handles depth row first count form at c)
   unfolding D.record_then read_number
   union_required o y = rw (← e, z, ne_eqb (form % 2) 1 (λ q. omega arith), y) did_stop
 
   module _ (edition : t.edition ≡ eight_byte_envelopes) (ask : Ask (length bytes) handles 16 at c) (o : form % 2 ≡ 0 → ⊥) {envelope : ℕ} (q : envelope ≡ word bytes (at + 8) 8) {values' : List ℕ} {d : Cursor} (g : Gave values values' c d 0) where
     pub union_absent : ((i : ℕ) → Fits w8 (get_or bytes i 0)) → envelope ≡ 0
-        → Did (length bytes) handles 16 values values' objects objects c (On d) (union_of t bytes handles depth row first count form at c)
+        → Did (length bytes) handles 16 values values' objects objects c (Ok d) (union_of t bytes handles depth row first count form at c)
     unfolding D.record_then read_number D.zero_envelope
     union_absent known n =
         let a = ask_gave 15 ask g.1 (omega arith) in
@@ -60,7 +58,7 @@ module _ (t : TypeTable) (bytes values objects : List ℕ) (handles depth row fi
         (did_gave {g = 15} 16 0 (λ n u. went n u [] []) g (did_nothing a.free a.held) (omega arith))
 
     pub union_not_absent : {f : Fault} → (envelope ≡ 0 → ⊥) → f ≡ fault absent_not_zero (Byte at)
-        → Did (length bytes) handles 16 values values' objects objects c (Refused f) (union_of t bytes handles depth row first count form at c)
+        → Did (length bytes) handles 16 values values' objects objects c (Err f) (union_of t bytes handles depth row first count form at c)
     unfolding D.record_then read_number D.zero_envelope
     union_not_absent n y =
         rw (← e, z, eq-eqb (form % 2) 1 (omega (arith, o)), envelope_size_lem edition, nonzero_word bytes (at + 8) 8 (omega arith) (λ w. n (q ∙ w)), y)
@@ -97,7 +95,7 @@ present t bytes handles depth row at n u content optional flexible (suc v) editi
     go true = rw (envelope_size_lem edition, content_read edition)
     go false = refl
 
-module _ (t : TypeTable) (bytes values objects : List ℕ) (handles depth row first count form at : ℕ) (c : Cursor) (ordinal : ℕ) (what : Ordinal) (known : Bool) (edition : t.edition ≡ eight_byte_envelopes) {members : List ℕ} (same : t.members ≡ members)
+module _ (t : TypeTable) (bytes values objects : List ℕ) (handles depth row first count form at : ℕ) (c : Cursor) (ordinal : ℕ) (what : Option ℕ) (known : Bool) (edition : t.edition ≡ eight_byte_envelopes) {members : List ℕ} (same : t.members ≡ members)
     (ask : Ask (length bytes) handles 16 at c) (small : form ≤ 3) (e : ordinal ≡ word bytes at 8) (n : ordinal ≡ 0 → ⊥)
     (few : first + count ≤ 1024) (rising : Rising members first count) (found : ordinal_is what ≡ halved members ordinal first count) (k : known ≡ is_known (ordinal_is what)) where
   kept : union_of t bytes handles depth row first count form at c
@@ -109,12 +107,12 @@ module _ (t : TypeTable) (bytes values objects : List ℕ) (handles depth row fi
       ∙ rw (← w, ← k, accepts form known small)
 
   pub union_unknown : {f : Fault} → leb 2 form || known ≡ false → f ≡ fault ordinal_unknown (Byte at)
-      → Did (length bytes) handles 16 values values objects objects c (Refused f) (union_of t bytes handles depth row first count form at c)
+      → Did (length bytes) handles 16 values values objects objects c (Err f) (union_of t bytes handles depth row first count form at c)
   union_unknown a y = rw (kept, a, y) did_stop
 
   module _ {values' : List ℕ} {d : Cursor} {envelope : ℕ} (a : leb 2 form || known ≡ true) (q : envelope ≡ word bytes (at + 8) 8) (g : Gave values values' c d ordinal) where
     pub union_empty : {f : Fault} → ((i : ℕ) → Fits w8 (get_or bytes i 0)) → envelope ≡ 0 → f ≡ fault present_envelope_zero (Byte (at + 8))
-        → Did (length bytes) handles 16 values values' objects objects c (Refused f) (union_of t bytes handles depth row first count form at c)
+        → Did (length bytes) handles 16 values values' objects objects c (Err f) (union_of t bytes handles depth row first count form at c)
     unfolding D.present_envelope
     union_empty b z y =
         rw (kept, a, zero_word bytes (at + 8) 8 (omega arith) (sym q ∙ z), y)
@@ -122,19 +120,23 @@ module _ (t : TypeTable) (bytes values objects : List ℕ) (handles depth row fi
 
     pub union_member : (envelope ≡ 0 → ⊥)
         → OpensMember (length bytes) handles 16 values values' objects objects c (union_of t bytes handles depth row first count form at c)
-        (λ what e. content_of_eight_bytes (message t bytes handles) (W.levels (message t bytes handles) depth) row (ordinal_is what) (at + 8) e.next e.handles) (Some what d)
+        (λ what e. content_of_eight_bytes (message t bytes handles) (W.levels (message t bytes handles) depth) row (ordinal_is what) (at + 8) e.next e.handles) (Ok (Present what d))
     unfolding D.present_envelope
     union_member z =
         rw (kept, a, nonzero_word bytes (at + 8) 8 (omega arith) (λ w. z (q ∙ w)))
         (cc, cc, cc, cc, λ v o r p. did_gave 16 ordinal (λ n u. content_of_eight_bytes (message t bytes handles) (W.levels (message t bytes handles) depth) row (ordinal_is what) (at + 8) n u) g p (omega arith))
 
-pub member_is : (members : List ℕ) (first count ordinal loaded : ℕ) (what : Ordinal) → ordinal ≡ loaded → first + count ≤ 1024 → Rising members first count
+pub known_as : (what : Option ℕ) → is_some what ≡ is_known (ordinal_is what)
+known_as None = refl
+known_as (Some row) = refl
+
+pub member_is : (members : List ℕ) (first count ordinal loaded : ℕ) (what : Option ℕ) → ordinal ≡ loaded → first + count ≤ 1024 → Rising members first count
     → ordinal_is what ≡ halved members ordinal first count → ContentIs members first count loaded what
 member_is members first count ordinal loaded what e few rising found t same = rw (← e) (found ∙ halved_content t first count ordinal same few rising)
 
 -- What a union's ordinal stands for is in use.
-pub member_fits : {t : TypeTable} {first count : ℕ} → MembersRise t first count → (bytes : List ℕ) (at : ℕ) (r : Member) {what : Ordinal} {d : Cursor}
-    → MemberIs bytes t.members first count at r → r ≡ Some what d → OrdinalFits t what
+pub member_fits : {t : TypeTable} {first count : ℕ} → MembersRise t first count → (bytes : List ℕ) (at : ℕ) (r : Result Member Fault) {what : Option ℕ} {d : Cursor}
+    → MemberIs bytes t.members first count at r → r ≡ Ok (Present what d) → OrdinalFits t what
 member_fits {t} {first} {count} m bytes at r {what} w z =
     let is : ContentIs t.members first count (word bytes at 8) what = rw z at w in
     ordinal_fits m (word bytes at 8) what (is t refl)

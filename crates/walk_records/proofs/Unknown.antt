@@ -1,5 +1,6 @@
 -- Content of an unknown ordinal: handles that it takes, in line and out of line.
 -- Assumes nothing.
+use Rattle.std.specs.Prelude.{Err, Ok}
 use mathlib.Core.Path.{◌≡◌, refl, sym, ◌∙◌}
 use mathlib.Core.Bool.{Bool, true, false, not, ◌&&◌}
 use mathlib.Core.List.{List, [], ◌∷◌}
@@ -22,8 +23,7 @@ use Rattle.rules.specs.Envelope.{in_line, out_of_line, payload_in_line, claimabl
 use Rattle.rules.specs.Walk as W
 use Rattle.layout.specs.Ready.{some_table}
 use Rattle.walk_leaves.specs.declared.cursor.Cursor.{Cursor}
-use Rattle.walk_leaves.specs.declared.cursor.Walked.{Walked}
-use Rattle.walk_leaves.specs.declared.cursor.Walked.TheVariants.{On, Refused}
+use Rattle.walk_leaves.specs.Doing.{Walked}
 use Rattle.walk_leaves.specs.Doing.{message, load, Did, Ask}
 use Rattle.walk_leaves.specs.Parts.{claim_at, numbers_at, DidObjects, DidValues}
 use Rattle.walk_records.specs.Opening.{raw_words}
@@ -37,7 +37,7 @@ use Rattle.walk_records.proofs.Claiming.{claim_then, claim_anywhere, claim_on}
 -- ---- handles
 
 module _ (t : TypeTable) (bytes values objects : List ℕ) (handles number content at from : ℕ) (c : Cursor) where
-  pub taken_few : {r : Walked} → handles < c.handles + number → r ≡ Refused (fault too_few_handles (Byte at))
+  pub taken_few : {r : Walked} → handles < c.handles + number → r ≡ Err (fault too_few_handles (Byte at))
       → Did (length bytes) handles 0 values values objects objects c r
       (D.take_handles (message t bytes handles) at (unknown_content content number) from c.next c.handles)
   unfolding D.take_handles
@@ -45,7 +45,7 @@ module _ (t : TypeTable) (bytes values objects : List ℕ) (handles number conte
 
   pub taken_all : c.handles + number ≤ handles → c.next ≤ length bytes
       → Did (length bytes) handles 0 values values objects objects c
-      (On (record { next = c.next; handles = c.handles + number; values = c.values; objects = c.objects }))
+      (Ok (record { next = c.next; handles = c.handles + number; values = c.values; objects = c.objects }))
       (D.take_handles (message t bytes handles) at (unknown_content content number) from c.next c.handles)
   unfolding D.take_handles object_list
   taken_all h k = rw (le-leb _ _ h) (record {
@@ -107,14 +107,14 @@ words_parts m row size number at n u =
 
 module _ (bytes objects objects' : List ℕ) (handles row size number at : ℕ) (c : Cursor) {x : Walked} (ask : Ask (length bytes) handles 5 at c)
     (claim : DidObjects bytes objects objects' 4 0 c x (claim_at unknown_object row size)) where
-  pub claim_refused : (t : TypeTable) (values : List ℕ) {f : Fault} → x ≡ Refused f
-      → Did (length bytes) handles 5 values values objects objects' c (Refused f) (raw_words (message t bytes handles) row size number at c.next c.handles)
+  pub claim_refused : (t : TypeTable) (values : List ℕ) {f : Fault} → x ≡ Err f
+      → Did (length bytes) handles 5 values values objects objects' c (Err f) (raw_words (message t bytes handles) row size number at c.next c.handles)
   claim_refused t values e =
       rw (words_parts (message t bytes handles) row size number at c.next c.handles)
       (did_halt 5 _ (rw e at (claim t values handles ask.free ask.held)))
 
-  module _ {d : Cursor} (went_on : x ≡ On d) where
-    claimed_at : (t : TypeTable) (values : List ℕ) → Did (length bytes) handles 4 values values objects objects' c (On d) (claim_at unknown_object row size (message t bytes handles) 0 c.next c.handles)
+  module _ {d : Cursor} (went_on : x ≡ Ok d) where
+    claimed_at : (t : TypeTable) (values : List ℕ) → Did (length bytes) handles 4 values values objects objects' c (Ok d) (claim_at unknown_object row size (message t bytes handles) 0 c.next c.handles)
     claimed_at t values = rw went_on at (claim t values handles ask.free ask.held)
 
     -- The object's bytes are no longer free, so they make room for its words.
@@ -127,15 +127,15 @@ module _ (bytes objects objects' : List ℕ) (handles row size number at : ℕ) 
         (w.0, w.1, q.0, omega arith)
 
     module _ {y : Walked} (taken : TakenDid handles number at d y) where
-      pub handles_refused : (t : TypeTable) (values : List ℕ) {f : Fault} → y ≡ Refused f
-          → Did (length bytes) handles 5 values values objects objects' c (Refused f) (raw_words (message t bytes handles) row size number at c.next c.handles)
+      pub handles_refused : (t : TypeTable) (values : List ℕ) {f : Fault} → y ≡ Err f
+          → Did (length bytes) handles 5 values values objects objects' c (Err f) (raw_words (message t bytes handles) row size number at c.next c.handles)
       handles_refused t values e =
           rw (words_parts (message t bytes handles) row size number at c.next c.handles)
           (did_then 5 _ (claimed_at t values) (did_halt 0 _ (rw e at (taken t bytes values objects' size c.next claim_room.0))) (omega (arith, claim_room.3)))
 
-      module _ {e : Cursor} (took : y ≡ On e) where
+      module _ {e : Cursor} (took : y ≡ Ok e) where
         taken_at : (t : TypeTable) (values : List ℕ)
-            → Did (length bytes) handles 0 values values objects' objects' d (On e) (D.take_handles (message t bytes handles) at (unknown_content size number) c.next d.next d.handles)
+            → Did (length bytes) handles 0 values values objects' objects' d (Ok e) (D.take_handles (message t bytes handles) at (unknown_content size number) c.next d.next d.handles)
         taken_at t values = rw took at (taken t bytes values objects' size c.next claim_room.0)
 
         taken_room : (e.next ≤ length bytes) × (e.handles ≤ handles) × (load (length bytes) e ≤ load (length bytes) d + 0)
@@ -148,8 +148,8 @@ module _ (bytes objects objects' : List ℕ) (handles row size number at : ℕ) 
             let l = ask.small in
             (omega (arith, claim_room.0, claim_room.2), omega (arith, claim_room.3, taken_room.2))
 
-        pub words_given : (t : TypeTable) (values values' : List ℕ) {z : Cursor} → DidValues bytes values values' (size / 8) c.next e (On z) (numbers_at 8 (size / 8))
-            → Did (length bytes) handles 5 values values' objects objects' c (On z) (raw_words (message t bytes handles) row size number at c.next c.handles)
+        pub words_given : (t : TypeTable) (values values' : List ℕ) {z : Cursor} → DidValues bytes values values' (size / 8) c.next e (Ok z) (numbers_at 8 (size / 8))
+            → Did (length bytes) handles 5 values values' objects objects' c (Ok z) (raw_words (message t bytes handles) row size number at c.next c.handles)
         words_given t values values' numbers =
             rw (words_parts (message t bytes handles) row size number at c.next c.handles)
             (did_then 5 _ (claimed_at t values)
@@ -173,7 +173,7 @@ module _ {low word : ℕ} (l : low ≡ word) where
 module _ (t : TypeTable) (bytes values values' objects objects' : List ℕ) (handles depth row at : ℕ) (c : Cursor) {form number : ℕ} {r : Walked}
     (q : form ≡ word bytes (at + 6) 2) (h : number ≡ word bytes (at + 4) 2) where
   module _ {test : Bool} (e : form ≡ in_line) (p : test ≡ claimable payload_in_line number) where
-    pub in_line_impossible : not test ≡ true → r ≡ Refused (fault handles_impossible (Byte at))
+    pub in_line_impossible : not test ≡ true → r ≡ Err (fault handles_impossible (Byte at))
         → Did (length bytes) handles 7 values values objects objects c r
         (unknown_envelope (message t bytes handles) (W.levels (message t bytes handles) depth) row at c.next c.handles)
     unfolding unknown_envelope
@@ -188,14 +188,14 @@ module _ (t : TypeTable) (bytes values values' objects objects' : List ℕ) (han
     form_in_line w d = rw (← q, eq-eqb _ _ e, possible refl h p w) d
 
   module _ {low : ℕ} (n : form ≡ in_line → ⊥) (l : low ≡ word bytes at 4) where
-    pub form_neither : not (eqb form out_of_line && (eqb (low % 8) 0 && ltb 0 low)) ≡ true → r ≡ Refused (fault envelope_form_wrong (Byte at))
+    pub form_neither : not (eqb form out_of_line && (eqb (low % 8) 0 && ltb 0 low)) ≡ true → r ≡ Err (fault envelope_form_wrong (Byte at))
         → Did (length bytes) handles 7 values values objects objects c r
         (unknown_envelope (message t bytes handles) (W.levels (message t bytes handles) depth) row at c.next c.handles)
     unfolding unknown_envelope
     form_neither w y = rw (← q, ne_eqb _ _ n, formed l form (not-true _ w), y) did_stop
 
     module _ {test : Bool} (w : not (eqb form out_of_line && (eqb (low % 8) 0 && ltb 0 low)) ≡ false) (p : test ≡ claimable low number) where
-      pub out_of_line_impossible : not test ≡ true → r ≡ Refused (fault handles_impossible (Byte at))
+      pub out_of_line_impossible : not test ≡ true → r ≡ Err (fault handles_impossible (Byte at))
           → Did (length bytes) handles 7 values values objects objects c r
           (unknown_envelope (message t bytes handles) (W.levels (message t bytes handles) depth) row at c.next c.handles)
       unfolding unknown_envelope

@@ -1,6 +1,6 @@
 -- Records that lead to an object: what was done, and what is left to do.
 -- Assumes nothing.
-use Rattle.std.specs.Prelude.{Bool, true, List, [], ◌≡◌, ℕ, zero, suc, ◌+◌, ◌-◌, ◌*◌, ◌/◌, ◌<◌, leb, eqb, if◌then◌else◌}
+use Rattle.std.specs.Prelude.{Bool, true, List, [], ◌≡◌, ℕ, zero, suc, ◌+◌, ◌-◌, ◌*◌, ◌/◌, ◌<◌, leb, eqb, if◌then◌else◌, Err, None, Ok, Option, Result, Some}
 use Rattle.rules.specs.declared.Place.TheVariants.{Byte}
 use Rattle.rules.specs.Refusals.{fault, byte_number_wrong, handle_number_wrong}
 use Rattle.rules.specs.Bytes.{ones64}
@@ -11,18 +11,15 @@ use Rattle.rules.specs.Decode.{Message, Decoded, went, Decoder, ReadRecord, got,
 use Rattle.rules.specs.Records.{ordinal_pattern, read_number, read_presence, read_count, read_table}
 use Rattle.rules.specs.Envelope.{decode_word, low_word, handle_number, content_of_eight_bytes}
 use Rattle.rules.specs.Walk as W
-use Rattle.ordinals.specs.declared.Ordinal.{Ordinal}
 use Rattle.walk_leaves.specs.declared.cursor.Cursor.{Cursor}
-use Rattle.walk_leaves.specs.declared.cursor.Walked.{Walked}
-use Rattle.walk_leaves.specs.declared.cursor.Walked.TheVariants.{On}
-use Rattle.walk_records.specs.declared.records.Count.{Count}
-use Rattle.walk_records.specs.declared.records.Count.TheVariants.{Absent, Present, Wrong}
+use Rattle.walk_leaves.specs.Doing.{Walked}
 use Rattle.walk_records.specs.declared.records.Opening.{Opening}
 use Rattle.walk_records.specs.declared.records.Opened.{Opened}
-use Rattle.walk_records.specs.declared.records.Opened.TheVariants.{Closed, Open, Refused}
+use Rattle.walk_records.specs.declared.records.Opened.TheVariants.{Closed, Open}
 use Rattle.walk_records.specs.declared.envelopes.Member.{Member}
-use Rattle.walk_records.specs.declared.envelopes.Member.TheVariants.{None, Some, Bad}
+use Rattle.walk_records.specs.declared.envelopes.Member.TheVariants.{Absent, Present}
 use Rattle.walk_leaves.specs.Doing.{Rises, Did, Ask, Leads}
+use Rattle.rules.specs.declared.Fault.{Fault}
 
 -- What a part is asked for that takes no handles: those that are used are enough.
 abbrev pub AskBytes : (total need at : ℕ) (c : Cursor) → Type 0
@@ -30,38 +27,38 @@ AskBytes total need at c = Ask total c.handles need at c
 
 -- ---- what the code's enums mean
 
-abbrev pub count_of : Count → ReadRecord
-count_of Absent = got 0
-count_of (Present count) = got (suc count)
-count_of (Wrong f) = wrong f
+abbrev pub count_of : Result (Option ℕ) Fault → ReadRecord
+count_of (Ok None) = got 0
+count_of (Ok (Some count)) = got (suc count)
+count_of (Err f) = wrong f
 
 -- Done already, or refused; or an object is open, and what is left of the whole is `left`, which takes `need` bytes of it.
 abbrev pub Opens : (total handles grow : ℕ) (values values' objects objects' : List ℕ) (c : Cursor) (whole : Decoded)
-    → (need : Opening → ℕ) (left : Opening → Decoded) → Opened → Type 0
-Opens total handles grow values values' objects objects' c whole need left (Closed e) = Did total handles grow values values' objects objects' c (On e) whole
-Opens total handles grow values values' objects objects' c whole need left (Refused f) = Did total handles grow values values' objects objects' c (Walked.Refused f) whole
-Opens total handles grow values values' objects objects' c whole need left (Open x) =
+    → (need : Opening → ℕ) (left : Opening → Decoded) → Result Opened Fault → Type 0
+Opens total handles grow values values' objects objects' c whole need left (Ok (Closed e)) = Did total handles grow values values' objects objects' c (Ok e) whole
+Opens total handles grow values values' objects objects' c whole need left (Err f) = Did total handles grow values values' objects objects' c (Err f) whole
+Opens total handles grow values values' objects objects' c whole need left (Ok (Open x)) =
     Ask total handles (need x) x.start x.cursor × Leads total handles grow (need x) values values' objects objects' c x.cursor whole (left x)
-    × Rises c (On x.cursor)
+    × Rises c (Ok x.cursor)
 
 -- An object that is open has so many elements.
-abbrev pub HasCount : (count : ℕ) → Opened → Type 0
-HasCount count (Closed e) = Unit {0}
-HasCount count (Refused f) = Unit {0}
-HasCount count (Open x) = x.count ≡ count
+abbrev pub HasCount : (count : ℕ) → Result Opened Fault → Type 0
+HasCount count (Ok (Closed e)) = Unit {0}
+HasCount count (Err f) = Unit {0}
+HasCount count (Ok (Open x)) = x.count ≡ count
 
 -- An object is open only where a level is left.
-abbrev pub Reaches : (depth : ℕ) → Opened → Type 0
-Reaches depth (Closed e) = Unit {0}
-Reaches depth (Refused f) = Unit {0}
-Reaches depth (Open x) = 0 < depth
+abbrev pub Reaches : (depth : ℕ) → Result Opened Fault → Type 0
+Reaches depth (Ok (Closed e)) = Unit {0}
+Reaches depth (Err f) = Unit {0}
+Reaches depth (Ok (Open x)) = 0 < depth
 
 -- The same of a union's member, whose envelope is left.
 abbrev pub OpensMember : (total handles grow : ℕ) (values values' objects objects' : List ℕ) (c : Cursor) (whole : Decoded)
-    → (left : Ordinal → Cursor → Decoded) → Member → Type 0
-OpensMember total handles grow values values' objects objects' c whole left (None e) = Did total handles grow values values' objects objects' c (On e) whole
-OpensMember total handles grow values values' objects objects' c whole left (Bad f) = Did total handles grow values values' objects objects' c (Walked.Refused f) whole
-OpensMember total handles grow values values' objects objects' c whole left (Some what e) =
+    → (left : Option ℕ → Cursor → Decoded) → Result Member Fault → Type 0
+OpensMember total handles grow values values' objects objects' c whole left (Ok (Absent e)) = Did total handles grow values values' objects objects' c (Ok e) whole
+OpensMember total handles grow values values' objects objects' c whole left (Err f) = Did total handles grow values values' objects objects' c (Err f) whole
+OpensMember total handles grow values values' objects objects' c whole left (Ok (Present what e)) =
     (gave : c.next ≡ e.next) × (c.handles ≡ e.handles) × (c.objects ≡ e.objects) × (e.values ≡ c.values + 1)
     × Leads total handles grow 8 values values' objects objects' c e whole (left what e)
 

@@ -1,7 +1,7 @@
 -- What the functions of records.rt and envelopes.rt promise. Each holds under any type table in which the sizes handed in are the rows', and of
 -- those that take no handles with any handle count; tables and unions where envelopes have eight bytes.
 -- Assumes nothing.
-use Rattle.std.specs.Prelude.{List, ◌≡◌, ℕ, ◌+◌, ◌-◌, ◌*◌, ◌/◌, ◌%◌, ◌≤◌, eqb, length}
+use Rattle.std.specs.Prelude.{List, ◌≡◌, ℕ, ◌+◌, ◌-◌, ◌*◌, ◌/◌, ◌%◌, ◌≤◌, eqb, length, Err, Ok, Option, Result}
 use Rattle.rules.specs.declared.Place.TheVariants.{Byte}
 use Rattle.rules.specs.Refusals.{fault, text_not_utf8}
 use Rattle.rules.specs.Bytes.{word}
@@ -16,22 +16,21 @@ use Rattle.rules.specs.Envelope.{unknown_in_line, unknown_out_of_line, unknown_e
 use Rattle.rules.specs.Walk as W
 use Rattle.ordinals.specs.Ordinals.{ordinal_is, ContentIs}
 use Rattle.walk_leaves.specs.declared.cursor.Cursor.{Cursor}
-use Rattle.walk_leaves.specs.declared.cursor.Walked.{Walked}
-use Rattle.walk_leaves.specs.declared.cursor.Walked.TheVariants.{On, Refused}
-use Rattle.walk_records.specs.declared.records.Count.{Count}
+use Rattle.walk_leaves.specs.Doing.{Walked}
 use Rattle.walk_records.specs.declared.records.Opened.{Opened}
 use Rattle.walk_records.specs.declared.envelopes.Member.{Member}
-use Rattle.walk_records.specs.declared.envelopes.Member.TheVariants.{None, Some, Bad}
+use Rattle.walk_records.specs.declared.envelopes.Member.TheVariants.{Absent, Present}
 use Rattle.walk_leaves.specs.Doing.{message, Did, Ask}
 use Rattle.walk_records.specs.Opening.{count_of, Opens, OpensMember, counted_at, vector_at, string_at, box_at, table_at, union_at, elements_of, value_of, envelopes_of, raw_words, sealed_at, payload_of}
+use Rattle.rules.specs.declared.Fault.{Fault}
 
-abbrev pub CountAt : (bytes : List ℕ) (optional largest at : ℕ) → Count → Type 0
+abbrev pub CountAt : (bytes : List ℕ) (optional largest at : ℕ) → Result (Option ℕ) Fault → Type 0
 CountAt bytes optional largest at r =
     (t : TypeTable) (handles : ℕ) → count_of r ≡ read_count (message t bytes handles) (eqb optional 1) largest at
 
 module _ (bytes : List ℕ) (depth : ℕ) (values values' objects objects' : List ℕ) (at : ℕ) (c : Cursor) where
   -- A count's record and the object that it leads to, whatever is walked in it, as `fields` makes it of the count and of what lies deeper.
-  abbrev pub CountedOpens : (row size largest optional : ℕ) → Opened → Type 0
+  abbrev pub CountedOpens : (row size largest optional : ℕ) → Result Opened Fault → Type 0
   CountedOpens row size largest optional r =
       (t : TypeTable) (handles : ℕ) (fields : (count : ℕ) → (ℕ → Decoder) → D.Deeper → Decoder) → Ask (length bytes) handles 16 at c
       → Opens (length bytes) handles 16 values values' objects objects' c
@@ -41,7 +40,7 @@ module _ (bytes : List ℕ) (depth : ℕ) (values values' objects objects' : Lis
       (W.levels (message t bytes handles) (depth - 1)) x.start x.cursor.next x.cursor.handles) r
 
   -- The same of a vector, whose elements are of a row of that size; it follows from the above.
-  abbrev pub VectorOpens : (row size largest optional : ℕ) → Opened → Type 0
+  abbrev pub VectorOpens : (row size largest optional : ℕ) → Result Opened Fault → Type 0
   VectorOpens row size largest optional r =
       (t : TypeTable) (handles element : ℕ) → size_of t element ≡ size → Ask (length bytes) handles 16 at c
       → Opens (length bytes) handles 16 values values' objects objects' c
@@ -53,13 +52,13 @@ module _ (bytes : List ℕ) (depth : ℕ) (values values' objects objects' : Lis
       (t : TypeTable) (handles : ℕ) → Ask (length bytes) handles 16 at c → Did (length bytes) handles 16 values values' objects objects' c r
       (string_at (message t bytes handles) depth row largest (eqb optional 1) at c.next c.handles)
 
-  abbrev pub BoxOpens : (element size : ℕ) → Opened → Type 0
+  abbrev pub BoxOpens : (element size : ℕ) → Result Opened Fault → Type 0
   BoxOpens element size r =
       (t : TypeTable) (handles : ℕ) → size_of t element ≡ size → Ask (length bytes) handles 8 at c
       → Opens (length bytes) handles 8 values values' objects objects' c
       (box_at (message t bytes handles) depth element at c.next c.handles) (λ x. size) (value_of (message t bytes handles) depth element) r
 
-  abbrev pub TableOpens : (row : ℕ) → Opened → Type 0
+  abbrev pub TableOpens : (row : ℕ) → Result Opened Fault → Type 0
   TableOpens row r =
       (t : TypeTable) (handles : ℕ) (content : ℕ → Content) → t.edition ≡ eight_byte_envelopes → Ask (length bytes) handles 16 at c
       → Opens (length bytes) handles 16 values values' objects objects' c
@@ -67,8 +66,8 @@ module _ (bytes : List ℕ) (depth : ℕ) (values values' objects objects' : Lis
 
 -- What comes of the walk of a text that starts at a byte of the message: it goes on from a cursor, or is refused where the text breaks.
 abbrev pub text_judged : Text → (start : ℕ) → Cursor → Walked
-text_judged text start c = On c
-text_judged (broken offset) start c = Refused (fault text_not_utf8 (Byte (start + offset)))
+text_judged text start c = Ok c
+text_judged (broken offset) start c = Err (fault text_not_utf8 (Byte (start + offset)))
 
 -- Unknown content takes handles, of so many that there are.
 module _ (bytes : List ℕ) (handles depth : ℕ) (values values' objects objects' : List ℕ) (at : ℕ) (c : Cursor) where
@@ -101,7 +100,7 @@ TakenDid handles number at c r =
     (D.take_handles (message t bytes handles) at (unknown_content content number) from c.next c.handles)
 
 -- A union whose members are so many from `first` on; `form` is 1 for optional, 2 for flexible, 3 for both. The objects are left alone.
-abbrev pub UnionOpens : (members bytes values values' : List ℕ) (at : ℕ) (c : Cursor) (first count form : ℕ) → Member → Type 0
+abbrev pub UnionOpens : (members bytes values values' : List ℕ) (at : ℕ) (c : Cursor) (first count form : ℕ) → Result Member Fault → Type 0
 UnionOpens members bytes values values' at c first count form r =
     (t : TypeTable) (objects : List ℕ) (handles depth row : ℕ) → t.edition ≡ eight_byte_envelopes → t.members ≡ members → Ask (length bytes) handles 16 at c
     → OpensMember (length bytes) handles 16 values values' objects objects c
@@ -109,7 +108,7 @@ UnionOpens members bytes values values' at c first count form r =
     (λ what e. content_of_eight_bytes (message t bytes handles) (W.levels (message t bytes handles) depth) row (ordinal_is what) (at + 8) e.next e.handles) r
 
 -- A known payload's envelope, before its value. The values are left alone.
-abbrev pub KnownOpens : (bytes : List ℕ) (depth : ℕ) (objects objects' : List ℕ) (at : ℕ) (c : Cursor) (payload size : ℕ) → Opened → Type 0
+abbrev pub KnownOpens : (bytes : List ℕ) (depth : ℕ) (objects objects' : List ℕ) (at : ℕ) (c : Cursor) (payload size : ℕ) → Result Opened Fault → Type 0
 KnownOpens bytes depth objects objects' at c payload size r =
     (t : TypeTable) (values : List ℕ) (handles row : ℕ) → size_of t payload ≡ size → Ask (length bytes) handles 7 at c
     → Opens (length bytes) handles 7 values values objects objects' c
@@ -117,7 +116,7 @@ KnownOpens bytes depth objects objects' at c payload size r =
     (λ x. size) (payload_of (message t bytes handles) depth payload size at c.next c.handles) r
 
 -- One level deeper, and a claim there: whatever is walked in the object, as `fields` makes it of what lies deeper.
-abbrev pub DeeperOpens : (bytes : List ℕ) (depth : ℕ) (objects objects' : List ℕ) (at : ℕ) (c : Cursor) (kind row size : ℕ) → Opened → Type 0
+abbrev pub DeeperOpens : (bytes : List ℕ) (depth : ℕ) (objects objects' : List ℕ) (at : ℕ) (c : Cursor) (kind row size : ℕ) → Result Opened Fault → Type 0
 DeeperOpens bytes depth objects objects' at c kind row size r =
     (t : TypeTable) (values : List ℕ) (handles : ℕ) (fields : (ℕ → Decoder) → D.Deeper → Decoder) → Ask (length bytes) handles 4 at c
     → Opens (length bytes) handles 4 values values objects objects' c
@@ -127,7 +126,7 @@ DeeperOpens bytes depth objects objects' at c kind row size r =
     x.start x.cursor.next x.cursor.handles) r
 
 -- So many envelopes one level deeper, of which the last is judged before any is walked: `envelopes` makes them of what lies deeper.
-abbrev pub EnvelopesOpen : (bytes : List ℕ) (depth : ℕ) (objects objects' : List ℕ) (at : ℕ) (c : Cursor) (row count : ℕ) → Opened → Type 0
+abbrev pub EnvelopesOpen : (bytes : List ℕ) (depth : ℕ) (objects objects' : List ℕ) (at : ℕ) (c : Cursor) (row count : ℕ) → Result Opened Fault → Type 0
 EnvelopesOpen bytes depth objects objects' at c row count r =
     (t : TypeTable) (values : List ℕ) (handles : ℕ) (envelopes : D.Deeper → Decoder) → Ask (length bytes) handles 4 at c
     → Opens (length bytes) handles 4 values values objects objects' c
@@ -143,7 +142,7 @@ SealDid bytes size at next used c r =
     → Did (length bytes) handles 0 values values objects objects c r (sealed_at (message t bytes handles) size at next used c.next c.handles)
 
 -- The member that a union's ordinal stands for.
-abbrev pub MemberIs : (bytes members : List ℕ) (first count at : ℕ) → Member → Type 0
-MemberIs bytes members first count at (None e) = Unit {0}
-MemberIs bytes members first count at (Bad f) = Unit {0}
-MemberIs bytes members first count at (Some what e) = ContentIs members first count (word bytes at 8) what
+abbrev pub MemberIs : (bytes members : List ℕ) (first count at : ℕ) → Result Member Fault → Type 0
+MemberIs bytes members first count at (Ok (Absent e)) = Unit {0}
+MemberIs bytes members first count at (Err f) = Unit {0}
+MemberIs bytes members first count at (Ok (Present what e)) = ContentIs members first count (word bytes at 8) what

@@ -6,19 +6,11 @@ ghost use Rattle.rules.specs.Text.{utf8};
 ghost use Rattle.walk_records.specs.Opening.{AskBytes, HasCount, Reaches};
 ghost use Rattle.walk_records.specs.Promises.{CountAt, DeeperOpens, CountedOpens, StringDid, text_judged, BoxOpens, EnvelopesOpen, TableOpens};
 
-use rules::Fault;
-use text::Text;
+use rules::{Fault, Place, Refusal};
 use walk_leaves::claims::claim;
-use walk_leaves::cursor::{Cursor, Walked, fault_at, gave, refused};
+use walk_leaves::cursor::{Cursor, gave, refused};
 use walk_leaves::scalars::numbers;
-
-// What a vector's or string's record says.
-#[derive(Clone, Copy)]
-pub enum Count {
-    Absent,
-    Present(usize),
-    Wrong(Fault),
-}
+use words::Word;
 
 // An object that is claimed and not walked yet: how many elements, where it starts, and the cursor after the claim.
 #[derive(Clone, Copy)]
@@ -28,36 +20,41 @@ pub struct Opening {
     pub cursor: Cursor,
 }
 
+// A record that leads to no object, or its object.
 #[derive(Clone, Copy)]
 pub enum Opened {
     Closed(Cursor),
     Open(Opening),
-    Refused(Fault),
 }
 
 // A count with its presence: 9; absent 10, 11; present 12.
-pub(crate) fn count_record(bytes: &[u8], optional: u32, largest: u32, at: usize) -> Count
+pub(crate) fn count_record(
+    bytes: &[u8],
+    optional: u32,
+    largest: u32,
+    at: usize,
+) -> Result<Option<usize>, Fault>
     requires { at < 4294967296 }
     ensures { CountAt bytes.now optional largest at result }
 {
-    let count = words::load64(bytes, at);
-    let presence = words::load64(bytes, at + 8);
+    let count = u64::load(bytes, at);
+    let presence = u64::load(bytes, at + 8);
     if presence == 0 {
         if optional == 1 {
             if count == 0 {
-                return Count::Absent;
+                return Ok(None);
             }
-            return Count::Wrong(fault_at(11, at));
+            return Err(Refusal::AbsentNotZero.at(Place::Byte(at)));
         }
-        return Count::Wrong(fault_at(10, at));
+        return Err(Refusal::RequiredAbsent.at(Place::Byte(at)));
     }
     if presence == 18446744073709551615 {
         if (largest as u64) < count {
-            return Count::Wrong(fault_at(12, at));
+            return Err(Refusal::CountOverLargest.at(Place::Byte(at)));
         }
-        return Count::Present(count as usize);
+        return Ok(Some(count as usize));
     }
-    Count::Wrong(fault_at(9, at))
+    Err(Refusal::PresenceWrong.at(Place::Byte(at)))
 }
 
 // Goes one level deeper and claims: 5 at the record, 6, 7.
@@ -71,22 +68,20 @@ pub(crate) fn deeper(
     size: usize,
     at: usize,
     c: Cursor,
-) -> Opened
+) -> Result<Opened, Fault>
     requires { AskBytes (length bytes.now) 4 at c × (row < 4294967296) × (size < 281474976710656) }
     ensures { DeeperOpens bytes.now depth objects.old objects.new at c kind row size result × HasCount count result × Reaches depth result }
 {
     if depth == 0 {
-        return Opened::Refused(fault_at(5, at));
+        return Err(Refusal::TooDeep.at(Place::Byte(at)));
     }
     let start = c.next;
-    match claim(bytes, objects, kind, row, size, c) {
-        Walked::On(d) => Opened::Open(Opening {
-            count,
-            start,
-            cursor: d,
-        }),
-        Walked::Refused(f) => Opened::Refused(f),
-    }
+    let cursor = claim(bytes, objects, kind, row, size, c)?;
+    Ok(Opened::Open(Opening {
+        count,
+        start,
+        cursor,
+    }))
 }
 
 // A vector's or a string's record: 9 to 12, then 5, 6, 7.
@@ -101,14 +96,13 @@ pub fn vector_opened(
     optional: u32,
     at: usize,
     c: Cursor,
-) -> Opened
+) -> Result<Opened, Fault>
     requires { AskBytes (length bytes.now) 16 at c × (row < 4294967296) × (size ≤ 65528) }
     ensures { CountedOpens bytes.now depth values.old values.new objects.old objects.new at c row size largest optional result × Reaches depth result }
 {
-    match count_record(bytes, optional, largest, at) {
-        Count::Absent => Opened::Closed(gave(values, 0, c)),
-        Count::Wrong(f) => Opened::Refused(f),
-        Count::Present(count) => {
+    match count_record(bytes, optional, largest, at)? {
+        None => Ok(Opened::Closed(gave(values, 0, c))),
+        Some(count) => {
             let d = gave(values, count as u64 + 1, c);
             deeper(bytes, objects, depth, 2, row, count, count * size, at, d)
         }
@@ -126,15 +120,15 @@ pub fn string(
     optional: u32,
     at: usize,
     c: Cursor,
-) -> Walked
+) -> Result<Cursor, Fault>
     requires { AskBytes (length bytes.now) 16 at c × (row < 4294967296) }
     ensures { StringDid bytes.now depth values.old values.new objects.old objects.new at c row largest optional result }
 {
-    match vector_opened(
+    let opened = vector_opened(
         bytes, values, objects, depth, row, 1, largest, optional, at, c,
-    ) {
-        Opened::Closed(e) => Walked::On(e),
-        Opened::Refused(f) => Walked::Refused(f),
+    )?;
+    match opened {
+        Opened::Closed(e) => Ok(e),
         Opened::Open(x) => {
             let start = x.start;
             let count = x.count;
@@ -145,12 +139,12 @@ pub fn string(
 }
 
 // A text that was given is judged: 13 where its first sequence starts that is not allowed.
-fn judged_text(bytes: &[u8], start: usize, count: usize, c: Cursor) -> Walked
+fn judged_text(bytes: &[u8], start: usize, count: usize, c: Cursor) -> Result<Cursor, Fault>
     ensures { result ≡ text_judged (utf8 (part bytes.now start count)) start c }
 {
     match text::judge_part(bytes, start, count) {
-        Text::Valid => Walked::On(c),
-        Text::Broken(offset) => refused(13, start + offset),
+        Ok(()) => Ok(c),
+        Err(offset) => refused(Refusal::TextNotUtf8, start + offset),
     }
 }
 
@@ -164,19 +158,19 @@ pub fn box_opened(
     size: usize,
     at: usize,
     c: Cursor,
-) -> Opened
+) -> Result<Opened, Fault>
     requires { AskBytes (length bytes.now) 8 at c × (element < 4294967296) × (size ≤ 65528) }
     ensures { BoxOpens bytes.now depth values.old values.new objects.old objects.new at c element size result × Reaches depth result }
 {
-    let presence = words::load64(bytes, at);
+    let presence = u64::load(bytes, at);
     if presence == 0 {
-        return Opened::Closed(gave(values, 0, c));
+        return Ok(Opened::Closed(gave(values, 0, c)));
     }
     if presence == 18446744073709551615 {
         let d = gave(values, 1, c);
         return deeper(bytes, objects, depth, 3, element, 1, size, at, d);
     }
-    Opened::Refused(fault_at(9, at))
+    Err(Refusal::PresenceWrong.at(Place::Byte(at)))
 }
 
 // A table's envelopes, so many: 5, 6, 7, then 19 at the last one. Over 8,192 fit in no message.
@@ -188,18 +182,18 @@ fn envelopes_opened(
     count: u64,
     at: usize,
     c: Cursor,
-) -> Opened
+) -> Result<Opened, Fault>
     requires { AskBytes (length bytes.now) 4 at c × (row < 4294967296) }
     ensures { EnvelopesOpen bytes.now depth objects.old objects.new at c row count result × HasCount count result × Reaches depth result }
 {
     if depth == 0 {
-        return Opened::Refused(fault_at(5, at));
+        return Err(Refusal::TooDeep.at(Place::Byte(at)));
     }
     if 8192 < count {
-        return Opened::Refused(fault_at(6, c.next));
+        return Err(Refusal::ObjectDoesNotFit.at(Place::Byte(c.next)));
     }
     let envelopes = count as usize;
-    match deeper(
+    let opened = deeper(
         bytes,
         objects,
         depth,
@@ -209,17 +203,17 @@ fn envelopes_opened(
         envelopes * 8,
         at,
         c,
-    ) {
-        Opened::Closed(e) => Opened::Closed(e),
-        Opened::Refused(f) => Opened::Refused(f),
+    )?;
+    match opened {
+        Opened::Closed(e) => Ok(Opened::Closed(e)),
         Opened::Open(x) => {
             if 0 < envelopes {
                 let last = x.start + (envelopes - 1) * 8;
-                if words::load64(bytes, last) == 0 {
-                    return Opened::Refused(fault_at(19, last));
+                if u64::load(bytes, last) == 0 {
+                    return Err(Refusal::LastEnvelopeZero.at(Place::Byte(last)));
                 }
             }
-            Opened::Open(x)
+            Ok(Opened::Open(x))
         }
     }
 }
@@ -233,18 +227,18 @@ pub fn table_opened(
     row: usize,
     at: usize,
     c: Cursor,
-) -> Opened
+) -> Result<Opened, Fault>
     requires { AskBytes (length bytes.now) 16 at c × (row < 4294967296) }
     ensures { TableOpens bytes.now depth values.old values.new objects.old objects.new at c row result × Reaches depth result }
 {
-    let count = words::load64(bytes, at);
-    let presence = words::load64(bytes, at + 8);
+    let count = u64::load(bytes, at);
+    let presence = u64::load(bytes, at + 8);
     if presence == 0 {
-        return Opened::Refused(fault_at(10, at));
+        return Err(Refusal::RequiredAbsent.at(Place::Byte(at)));
     }
     if presence == 18446744073709551615 {
         let d = gave(values, count, c);
         return envelopes_opened(bytes, objects, depth, row, count, at, d);
     }
-    Opened::Refused(fault_at(9, at))
+    Err(Refusal::PresenceWrong.at(Place::Byte(at)))
 }

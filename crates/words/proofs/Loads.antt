@@ -1,9 +1,9 @@
 -- Laws of `part`, so many bytes from a place on, and of `word`, the number that they stand for, at any width.
 -- Assumes nothing.
-use Rattle.std.proofs.Common.{◌≡◌, ℕ, zero, suc, ◌+◌, ◌*◌, ◌^◌, ◌<◌, ◌≤◌, List, [], ◌∷◌, length, get_or, refl, add-zero, add_assoc, add-suc, mul_assoc, mul_comm, add_comm, suc-add, pow-suc, mul-zero, zero-add, mul-add, arith, drop_of_length-le, drop-cons, w8, Fits}
-use native.Mathlib.Nat.{pow-succ'}
-use lib.Arith.{digits_lt}
+use Rattle.std.proofs.lemmas.Grind.{common_steps}
+use Rattle.std.proofs.Common.{set, ◌∙◌, ◌≡◌, ℕ, zero, suc, ◌+◌, ◌*◌, ◌^◌, ◌<◌, ◌≤◌, List, [], ◌∷◌, length, get_or, refl, add-zero, add-suc, suc-add, pow-suc, arith, drop_of_length-le, drop-cons}
 use lib.Seq.{take-nil}
+use Rattle.std.specs.Int.{byte_worth, sum_through}
 use Rattle.rules.specs.Bytes.{little_endian, part, word}
 
 -- the part's first byte
@@ -21,12 +21,7 @@ pub word_none : (bytes : List ℕ) (at : ℕ) → word bytes at 0 ≡ 0
 unfolding word part little_endian
 word_none bytes at = refl
 
--- past the end
-pub word_past : (bytes : List ℕ) (at width : ℕ) → length bytes ≤ at → word bytes at width ≡ 0
-unfolding word little_endian
-word_past bytes at width h = rw (part_past bytes at width)
-
--- one byte more
+-- by its first byte
 pub word_step : (bytes : List ℕ) (at width : ℕ) → word bytes at (suc width) ≡ get_or bytes at 0 + 256 * word bytes (suc at) width
 unfolding word part little_endian
 word_step [] zero width = rw take-nil
@@ -38,24 +33,24 @@ word_step (byte ∷ bytes) (suc at) width = word_step bytes at width
 pub word_byte : (bytes : List ℕ) (at : ℕ) → word bytes at 1 ≡ get_or bytes at 0
 word_byte bytes at = omega (arith, word_step bytes at 0, word_none bytes (suc at))
 
--- a word in two parts
-pub word_parts : (bytes : List ℕ) (at low high : ℕ) → word bytes at (low + high) ≡ word bytes at low + 256 ^ low * word bytes (at + low) high
-word_parts bytes at zero high = rw (zero-add, add-zero, word_none) (omega arith)
-word_parts bytes at (suc low) high =
-    rw (suc-add, word_step bytes at (low + high), word_step bytes at low, word_parts bytes (suc at) low high, add-suc, suc-add, pow-succ', mul-add, mul_assoc, add_assoc)
+-- the last of a word's bytes, worth the most
+spread : (byte low last worth : ℕ) → byte + 256 * (low + last * worth) ≡ byte + 256 * low + last * (worth * 256)
+spread byte low last worth = grind arith
 
--- a word made of what stands in its two parts,
-pub word_of_parts : (bytes : List ℕ) (at low high : ℕ) {l h : ℕ} → l ≡ word bytes at low → h ≡ word bytes (at + low) high
-    → l + h * 256 ^ low ≡ word bytes at (low + high)
-word_of_parts bytes at low high p q = rw (p, q, word_parts, mul_comm (256 ^ low))
+word_last : (bytes : List ℕ) (at width : ℕ) → word bytes at (suc width) ≡ word bytes at width + get_or bytes (at + width) 0 * 256 ^ width
+word_last bytes at zero = rw (word_byte, word_none, add-zero) (omega arith)
+word_last bytes at (suc width) =
+    rw (word_step bytes at (suc width), word_last bytes (suc at) width, word_step bytes at width, add-suc, suc-add, pow-suc)
+    (spread (get_or bytes at 0) (word bytes (suc at) width) (get_or bytes (suc (at + width)) 0) (256 ^ width))
 
--- and one whose upper part is past the end
-pub word_clipped : (bytes : List ℕ) (at low high : ℕ) {l : ℕ} → length bytes ≤ at + low → l ≡ word bytes at low → l ≡ word bytes at (low + high)
-word_clipped bytes at low high h p = rw (p, word_parts, word_past bytes (at + low) high, mul-zero, add-zero)
+-- a word as `from_le_bytes` reads it from a chunk of the bytes
+pub loaded : (chunk bytes : List ℕ) (at n : ℕ) {r : ℕ} → ((i : ℕ) → i < suc n → get_or chunk i 0 ≡ get_or bytes (at + i) 0)
+    → r ≡ sum_through (λ i. byte_worth i (get_or chunk i 0)) n → r ≡ word bytes at (suc n)
+loaded chunk bytes at zero same e = e ∙ same 0 (omega arith) ∙ rw (add-zero, word_byte)
+loaded chunk bytes at (suc n) same e =
+    e ∙ rw (loaded chunk bytes at n (λ i h. same i (omega arith)) refl, same (suc n) (omega arith), word_last bytes at (suc n))
 
--- a word of a slice of bytes fits its width
-pub word_below : (bytes : List ℕ) → ((i : ℕ) → Fits w8 (get_or bytes i 0)) → (at width : ℕ) → word bytes at width < 256 ^ width
-word_below bytes known at zero = rw word_none (omega arith)
-word_below bytes known at (suc width) =
-    let byte : get_or bytes at 0 < 256 = (known at).fits in
-    rw (word_step, add_comm, mul_comm 256, pow-suc) (digits_lt (word_below bytes known (suc at) width) byte)
+-- one byte more of a chunk
+pub filled_more : (chunk bytes : List ℕ) (i : ℕ) {x : ℕ} → ((k : ℕ) → k < i → get_or chunk k 0 ≡ get_or bytes k 0) → i < length chunk → x ≡ get_or bytes i 0
+    → (k : ℕ) → k < i + 1 → get_or (set chunk i x) k 0 ≡ get_or bytes k 0
+filled_more chunk bytes i before long e k h = grind (arith, common_steps, before k)

@@ -1,9 +1,9 @@
 -- Laws of a run of stores, `sets`, which leaves out what would stand past the end, and of the bytes of a word, at any width.
 -- Assumes nothing.
-use Rattle.std.proofs.Common.{◌≡◌, ℕ, zero, suc, ◌+◌, ◌*◌, ◌/◌, ◌%◌, ◌^◌, ◌<◌, ◌≤◌, List, [], ◌∷◌, ◌++◌, length, set, sym, refl, ap, ◌∙◌, add-zero, mod-eq_of_lt, suc-add, pow-suc, zero-add, div-one, arith}
-use native.Mathlib.Nat.{pow-succ', one-le-pow, div-div-eq-div-mul}
-use lib.Arith.{mod-mul, digits_div, digits_mod}
-use lib.Seq.{sets, set_comm, set_out, length-sets}
+use Rattle.std.proofs.Common.{◌≡◌, ℕ, zero, suc, ◌+◌, ◌/◌, ◌^◌, ◌<◌, ◌≤◌, List, [], ◌∷◌, ◌++◌, length, set, sym, refl, ap, ◌∙◌, add-zero, mod-eq_of_lt, pow-suc, div-one, get_or, take, drop, add-one, add_comm, append_assoc, length-take, arith}
+use native.Mathlib.Nat.{div-div-eq-div-mul}
+use lib.Seq.{sets, set_comm, set_out, length-sets, sets-eq, drop-drop, take-suc}
+use Rattle.std.specs.Int.{bytes_low_first}
 use Rattle.rules.specs.Bytes.{bytes_of}
 
 module _ {ℓ} {A : Type ℓ} where
@@ -31,6 +31,24 @@ module _ {ℓ} {A : Type ℓ} where
       sets_comm (set list at x) (suc at) first later second (omega arith)
       ∙ ap (λ (l : List A). sets l (suc at) first) (set_sets list at x later second (omega arith))
 
+  -- a run that fits, in the place of what was there
+  pub sets_placed : (list : List A) (at : ℕ) (run : List A) (count : ℕ) → at + count ≤ length list → length run ≡ count
+      → take at list ++ (run ++ drop count (drop at list)) ≡ sets list at run
+  sets_placed list at run count h k = rw (sets-eq run list at (omega arith), k, drop-drop, add_comm, append_assoc)
+
+  -- one element more of a run, and one that is past the end
+  pub sets_more : (list : List A) (at : ℕ) (run : List A) (i : ℕ) {after : List A} (d : A) → after ≡ sets list at (take i run) → i < length run
+      → set after (at + i) (get_or run i d) ≡ sets list at (take (i + 1) run)
+  sets_more list at run i d p h =
+      let long : length (take i run) ≡ i = omega (arith, length-take i run) in
+      rw (p, add-one, take-suc run i d h, ← sets_append list at (take i run) (get_or run i d ∷ []), long)
+
+  pub sets_more_past : (list : List A) (at : ℕ) (run : List A) (i : ℕ) {after : List A} (d : A) → after ≡ sets list at (take i run) → i < length run
+      → length list ≤ at + i → after ≡ sets list at (take (i + 1) run)
+  sets_more_past list at run i d p h k =
+      let out : length (sets list at (take i run)) ≤ at + i = rw length-sets k in
+      p ∙ sym (set_out (sets list at (take i run)) (at + i) (get_or run i d) out) ∙ sets_more list at run i d refl h
+
   -- a run past the end
   pub sets_past : (list : List A) (at : ℕ) (run : List A) → length list ≤ at → sets list at run ≡ list
   sets_past list at [] h = refl
@@ -46,33 +64,13 @@ pub bytes_of_byte : (value : ℕ) → value < 256 → bytes_of 1 value ≡ value
 unfolding bytes_of
 bytes_of_byte value h = rw mod-eq_of_lt
 
--- the digits to base 256 of the lower part
-lower : (width value : ℕ) → value % 256 ^ suc width ≡ value / 256 % 256 ^ width * 256 + value % 256
-lower width value = rw pow-suc (mod-mul value (one-le-pow width 256 (omega arith)) (omega arith))
-
-pub bytes_of_lower : (width value : ℕ) → bytes_of width (value % 256 ^ width) ≡ bytes_of width value
+-- the bytes of a number as `to_le_bytes` gives them
+low_first : (i width value : ℕ) → bytes_low_first i width value ≡ bytes_of width (value / 256 ^ i)
 unfolding bytes_of
-bytes_of_lower zero value = refl
-bytes_of_lower (suc width) value =
-    let h : value % 256 < 256 = omega arith in
-    rw (lower width value, digits_mod (value / 256 % 256 ^ width) h, digits_div (value / 256 % 256 ^ width) h, bytes_of_lower width (value / 256))
+low_first i zero value = refl
+low_first zero (suc width) value = rw (low_first 1 width value, div-one)
+low_first (suc i) (suc width) value = rw (low_first (suc (suc i)) width value, div-div-eq-div-mul, ← pow-suc)
 
--- the bytes of a word in two parts
-pub bytes_of_parts : (low high value : ℕ) → bytes_of (low + high) value ≡ bytes_of low value ++ bytes_of high (value / 256 ^ low)
-unfolding bytes_of
-bytes_of_parts zero high value = rw (zero-add, div-one)
-bytes_of_parts (suc low) high value = rw (suc-add, bytes_of_parts low high (value / 256), div-div-eq-div-mul, pow-succ')
-
--- a word stored in two parts,
-pub store_parts : (list : List ℕ) (at low high value : ℕ) {half whole : List ℕ} → half ≡ sets list at (bytes_of low (value % 256 ^ low))
-    → whole ≡ sets half (at + low) (bytes_of high (value / 256 ^ low)) → whole ≡ sets list at (bytes_of (low + high) value)
-store_parts list at low high value p q =
-    let e = rw length_bytes_of at (sets_append list at (bytes_of low value) (bytes_of high (value / 256 ^ low))) in
-    rw (q, p, bytes_of_lower, bytes_of_parts) e
-
--- and one whose upper part is past the end
-pub store_clipped : (list : List ℕ) (at low high value : ℕ) {half : List ℕ} → length list ≤ at + low
-    → half ≡ sets list at (bytes_of low (value % 256 ^ low)) → half ≡ sets list at (bytes_of (low + high) value)
-store_clipped list at low high value {half} h p =
-    let k : length half ≤ at + low = rw (p, length-sets) h in
-    store_parts list at low high value p (sym (sets_past half (at + low) (bytes_of high (value / 256 ^ low)) k))
+pub stored : (list : List ℕ) (at width value : ℕ) {chunk after : List ℕ} → chunk ≡ bytes_low_first 0 width value → after ≡ sets list at chunk
+    → after ≡ sets list at (bytes_of width value)
+stored list at width value p q = rw (q, p, low_first, div-one)

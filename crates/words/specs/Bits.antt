@@ -1,12 +1,6 @@
 -- All the bits of numbers.
 -- Assumes nothing.
-use Rattle.std.specs.Prelude.{ℕ, zero, suc, List, length, bit_or, slice_index}
+use Rattle.std.specs.Prelude.{ℕ, List, bit_or, fold}
 
--- Of the first so many;
-unfoldable pub bits_of : (numbers : List ℕ) (count : ℕ) → ℕ
-bits_of numbers zero = 0
-bits_of numbers (suc count) = bit_or (bits_of numbers count) (slice_index numbers count)
-
--- of all of them.
 abbrev pub all_bits : List ℕ → ℕ
-all_bits numbers = bits_of numbers (length numbers)
+all_bits numbers = fold bit_or 0 numbers

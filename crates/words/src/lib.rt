@@ -2,283 +2,234 @@
 // as 0, and a store past the end is left out. No function requires anything of its caller.
 #![tactic(auto)]
 
-ghost use Rattle.std.specs.Prelude.{◌≡◌, ◌+◌, ◌%◌, ◌^◌, ◌≤◌, length, nat_le, slice_index, slice_set};
+ghost use Rattle.std.specs.Prelude.{◌≡◌, ◌+◌, ◌%◌, ◌^◌, ◌<◌, ℕ, bit_or, fold, slice_index, slice_index_or, slice_set};
 ghost use Rattle.std.proofs.lemmas.List.Edits.{sets};
-ghost use Rattle.rules.specs.Bytes.{word, bytes_of, part, pattern32, signed32, leading_zeros, round_up, padded};
-ghost use Rattle.words.specs.Bits.{all_bits};
+ghost use Rattle.rules.specs.Bytes.{word, bytes_of, part, leading_zeros, round_up, padded};
+
+use std::ops::BitOr;
 
 // ---- elements
 
-pub fn byte_at(bytes: &[u8], at: usize) -> u8
-    ensures { result ≡ slice_index bytes.now at }
-{
-    if at < bytes.len() { bytes[at] } else { 0 }
+// A number that lists hold. Past the end of a list it reads as its default, 0, and `|` joins the bits of two.
+pub trait Number: Copy + Default + BitOr<Output = Self> {
+    ghost zero: { Self };
+
+    ghost or: { Self → Self → Self };
+
+    ghost zero_law: { (x : Self) → Self.is_default x → x ≡ zero };
+
+    ghost can_or: { (a b : Self) → Self.can_bitor a b };
+
+    ghost or_law: { (a b r : Self) → Self.bitor_gives a b r → r ≡ or a b };
 }
 
-pub fn number_at(numbers: &[u32], at: usize) -> u32
-    ensures { result ≡ slice_index numbers.now at }
-{
-    if at < numbers.len() { numbers[at] } else { 0 }
+impl Number for u8 {
+    ghost zero = { 0 };
+
+    ghost or = { bit_or };
+
+    ghost zero_law = { λ x e. e };
+
+    ghost can_or = { λ a b. tt };
+
+    ghost or_law = { λ a b r e. e };
 }
 
-pub fn value_at(values: &[u64], at: usize) -> u64
-    ensures { result ≡ slice_index values.now at }
+impl Number for u32 {
+    ghost zero = { 0 };
+
+    ghost or = { bit_or };
+
+    ghost zero_law = { λ x e. e };
+
+    ghost can_or = { λ a b. tt };
+
+    ghost or_law = { λ a b r e. e };
+}
+
+impl Number for u64 {
+    ghost zero = { 0 };
+
+    ghost or = { bit_or };
+
+    ghost zero_law = { λ x e. e };
+
+    ghost can_or = { λ a b. tt };
+
+    ghost or_law = { λ a b r e. e };
+}
+
+// The item at a place, and 0 past the end.
+pub fn item_at<T: Number>(items: &[T], at: usize) -> T
+    ensures { result ≡ slice_index_or items.now at T.zero }
 {
-    if at < values.len() { values[at] } else { 0 }
+    items.get(at).copied().unwrap_or_default()
 }
 
 // `set` past the end is the list as it was.
-pub fn put_number(numbers: &mut [u32], at: usize, number: u32)
-    ensures { numbers.new ≡ slice_set numbers.old at number }
+pub fn put_item<T: Copy>(items: &mut [T], at: usize, item: T)
+    ensures { items.new ≡ slice_set items.old at item }
 {
-    if at < numbers.len() {
-        numbers[at] = number;
+    if at < items.len() {
+        items[at] = item;
     }
 }
 
-pub fn put_value(values: &mut [u64], at: usize, value: u64)
-    ensures { values.new ≡ slice_set values.old at value }
+// All the bits of the items: none of them is above it. There is no branch for each, so that the loop is compiled to vector
+// instructions.
+pub fn bits_of<T: Number>(items: &[T]) -> T
+    ensures { result ≡ fold T.or T.zero items.now }
 {
-    if at < values.len() {
-        values[at] = value;
+    items.iter().fold(T::default(), |bits, item| bits | *item)
+}
+
+// ---- words
+
+// A number that messages hold as little-endian bytes. Each type has its two lines: std has no trait with `from_le_bytes`.
+pub trait Word: Copy {
+    ghost width: { ℕ };
+
+    ghost number: { Self → ℕ };
+
+    // The word at a place.
+    fn load(bytes: &[u8], at: usize) -> Self
+        ensures { number result ≡ word bytes.now at width };
+
+    // The bytes of a word, stored from a place on, those that there is room for.
+    fn store(out: &mut [u8], at: usize, value: Self)
+        ensures { out.new ≡ sets out.old at (bytes_of width (number value)) };
+}
+
+#[tactic(auto, using(crate::proofs::Stores::bytes_of_byte))]
+impl Word for u8 {
+    ghost width = { 1 };
+
+    ghost number = { λ n. n };
+
+    fn load(bytes: &[u8], at: usize) -> u8 {
+        u8::from_le_bytes(chunk_at(bytes, at))
+    }
+
+    fn store(out: &mut [u8], at: usize, value: u8) {
+        put_chunk(out, at, value.to_le_bytes())
     }
 }
 
-// ---- loads
+#[tactic(auto, using(crate::proofs::Stores::stored))]
+impl Word for u16 {
+    ghost width = { 2 };
 
-// Whether `count` elements from a place on lie within a list of that length.
-fn within(total: usize, at: usize, count: usize) -> bool
-    ensures { result ≡ nat_le (at + count) total }
-{
-    if at <= total {
-        count <= total - at
-    } else {
-        false
+    ghost number = { λ n. n };
+
+    fn load(bytes: &[u8], at: usize) -> u16 {
+        u16::from_le_bytes(chunk_at(bytes, at))
+    }
+
+    fn store(out: &mut [u8], at: usize, value: u16) {
+        put_chunk(out, at, value.to_le_bytes())
     }
 }
 
-fn wide(byte: u8) -> u16
-    ensures { (result ≡ byte) × (result ≤ 255) }
-{
-    byte as u16
-}
+#[tactic(auto, using(crate::proofs::Stores::stored))]
+impl Word for u32 {
+    ghost width = { 4 };
 
-// Words that lie within the bytes, each made of its halves. Inlined, whole64 is one 8-byte machine load at -O3.
-fn whole16(bytes: &[u8], at: usize) -> u16
-    requires { at + 2 ≤ length bytes.now }
-    ensures { result ≡ word bytes.now at 2 }
-{
-    wide(bytes[at]) + wide(bytes[at + 1]) * 256
-}
+    ghost number = { λ n. n };
 
-fn whole32(bytes: &[u8], at: usize) -> u32
-    requires { at + 4 ≤ length bytes.now }
-    ensures { result ≡ word bytes.now at 4 }
-{
-    whole16(bytes, at) as u32 + (whole16(bytes, at + 2) as u32) * 65536
-}
-
-fn whole64(bytes: &[u8], at: usize) -> u64
-    requires { at + 8 ≤ length bytes.now }
-    ensures { result ≡ word bytes.now at 8 }
-{
-    whole32(bytes, at) as u64 + (whole32(bytes, at + 4) as u64) * 4294967296
-}
-
-// The little-endian word at a place. Where it lies within the bytes it is loaded whole.
-pub fn load16(bytes: &[u8], at: usize) -> u16
-    ensures { result ≡ word bytes.now at 2 }
-{
-    if within(bytes.len(), at, 2) {
-        return whole16(bytes, at);
+    fn load(bytes: &[u8], at: usize) -> u32 {
+        u32::from_le_bytes(chunk_at(bytes, at))
     }
-    byte_at(bytes, at) as u16
-}
 
-pub fn load32(bytes: &[u8], at: usize) -> u32
-    ensures { result ≡ word bytes.now at 4 }
-{
-    if within(bytes.len(), at, 4) {
-        return whole32(bytes, at);
-    }
-    let low = load16(bytes, at) as u32;
-    if within(bytes.len(), at, 2) {
-        return low + (load16(bytes, at + 2) as u32) * 65536;
-    }
-    low
-}
-
-pub fn load64(bytes: &[u8], at: usize) -> u64
-    ensures { result ≡ word bytes.now at 8 }
-{
-    if within(bytes.len(), at, 8) {
-        return whole64(bytes, at);
-    }
-    let low = load32(bytes, at) as u64;
-    if within(bytes.len(), at, 4) {
-        return low + (load32(bytes, at + 4) as u64) * 4294967296;
-    }
-    low
-}
-
-// ---- stores
-
-// Stores where there is room for all bytes, half by half. Inlined, write64 is one 8-byte machine store at -O3.
-fn write16(out: &mut [u8], at: usize, value: u16)
-    requires { at + 2 ≤ length out.old }
-    ensures { out.new ≡ sets out.old at (bytes_of 2 value) }
-{
-    out[at] = (value % 256) as u8;
-    out[at + 1] = (value / 256) as u8;
-}
-
-fn write32(out: &mut [u8], at: usize, value: u32)
-    requires { at + 4 ≤ length out.old }
-    ensures { out.new ≡ sets out.old at (bytes_of 4 value) }
-{
-    write16(out, at, (value % 65536) as u16);
-    write16(out, at + 2, (value / 65536) as u16);
-}
-
-fn write64(out: &mut [u8], at: usize, value: u64)
-    requires { at + 8 ≤ length out.old }
-    ensures { out.new ≡ sets out.old at (bytes_of 8 value) }
-{
-    write32(out, at, (value % 4294967296) as u32);
-    write32(out, at + 4, (value / 4294967296) as u32);
-}
-
-// The little-endian bytes of a word, stored from a place on, those that there is room for.
-pub fn store8(out: &mut [u8], at: usize, value: u8)
-    ensures { out.new ≡ sets out.old at (bytes_of 1 value) }
-{
-    if at < out.len() {
-        out[at] = value;
+    fn store(out: &mut [u8], at: usize, value: u32) {
+        put_chunk(out, at, value.to_le_bytes())
     }
 }
 
-pub fn store16(out: &mut [u8], at: usize, value: u16)
-    ensures { out.new ≡ sets out.old at (bytes_of 2 value) }
-{
-    if within(out.len(), at, 2) {
-        write16(out, at, value);
-    } else {
-        store8(out, at, (value % 256) as u8);
+#[tactic(auto, using(crate::proofs::Stores::stored))]
+impl Word for u64 {
+    ghost width = { 8 };
+
+    ghost number = { λ n. n };
+
+    fn load(bytes: &[u8], at: usize) -> u64 {
+        u64::from_le_bytes(chunk_at(bytes, at))
+    }
+
+    fn store(out: &mut [u8], at: usize, value: u64) {
+        put_chunk(out, at, value.to_le_bytes())
     }
 }
 
-pub fn store32(out: &mut [u8], at: usize, value: u32)
-    ensures { out.new ≡ sets out.old at (bytes_of 4 value) }
+// N bytes from a place on. Where they lie within the bytes they are one machine load at -O3.
+#[tactic(auto, using(crate::proofs::Loads::filled_more))]
+fn chunk_at<const N: usize>(bytes: &[u8], at: usize) -> [u8; N]
+    ensures { (i : ℕ) → i < N → slice_index result i ≡ slice_index bytes.now (at + i) }
 {
-    let total = out.len();
-    if within(total, at, 4) {
-        write32(out, at, value);
-    } else {
-        store16(out, at, (value % 65536) as u16);
-        if within(total, at, 2) {
-            store16(out, at + 2, (value / 65536) as u16);
+    let Some(rest) = bytes.get(at..) else {
+        return [0; N];
+    };
+    if let Some(chunk) = rest.first_chunk() {
+        return *chunk;
+    }
+    let mut chunk = [0; N];
+    for i in 0..N {
+        chunk[i] = item_at(rest, i);
+    }
+    chunk
+}
+
+// Stores a chunk from a place on. Where there is room for all of it, it is one machine store at -O3. Else the loop goes over the
+// whole chunk, whose length is known, so that it is unrolled and needs no copy of the chunk in memory.
+#[tactic(auto, using(crate::proofs::Stores::sets_past, crate::proofs::Stores::sets_placed, crate::proofs::Stores::sets_more, crate::proofs::Stores::sets_more_past))]
+fn put_chunk<const N: usize>(out: &mut [u8], at: usize, chunk: [u8; N])
+    ensures { out.new ≡ sets out.old at chunk.entry }
+{
+    if out.len() <= at {
+        return;
+    }
+    let room = out.len() - at;
+    if N <= room {
+        out[at..at + N].copy_from_slice(&chunk);
+        return;
+    }
+    for (i, byte) in chunk.iter().enumerate() {
+        if i < room {
+            out[at + i] = *byte;
         }
     }
-}
-
-pub fn store64(out: &mut [u8], at: usize, value: u64)
-    ensures { out.new ≡ sets out.old at (bytes_of 8 value) }
-{
-    let total = out.len();
-    if within(total, at, 8) {
-        write64(out, at, value);
-    } else {
-        store32(out, at, (value % 4294967296) as u32);
-        if within(total, at, 4) {
-            store32(out, at + 4, (value / 4294967296) as u32);
-        }
-    }
-}
-
-// ---- signed numbers
-
-// The signed number that a pattern of 32 bits stands for.
-pub fn signed32(pattern: u32) -> i32
-    ensures { result ≡ signed32 pattern }
-{
-    if pattern < 0x80000000 {
-        return pattern as i32;
-    }
-    -1 - (0xFFFFFFFF - pattern) as i32
-}
-
-// A signed number as a pattern of 32 bits.
-pub fn pattern32(number: i32) -> u32
-    ensures { result ≡ pattern32 number }
-{
-    if number < 0 {
-        return 0xFFFFFFFF - (-1 - number) as u32;
-    }
-    number as u32
-}
-
-// ---- bits
-
-// All the bits of bytes, and of numbers: none of them is above it. There is no branch for each, so that the loop is compiled to
-// vector instructions.
-pub fn byte_bits(bytes: &[u8]) -> u8
-    ensures { result ≡ all_bits bytes.now }
-{
-    let mut bits: u8 = 0;
-    let mut i = 0;
-    while i < bytes.len() {
-        bits = bits | bytes[i];
-        i += 1;
-    }
-    bits
-}
-
-pub fn value_bits(values: &[u64]) -> u64
-    ensures { result ≡ all_bits values.now }
-{
-    let mut bits: u64 = 0;
-    let mut i = 0;
-    while i < values.len() {
-        bits = bits | values[i];
-        i += 1;
-    }
-    bits
 }
 
 // ---- fill and rounding
 
 // How many zero bytes the part of `count` bytes from a place on begins with.
+#[tactic(auto, using(crate::proofs::Fill::zeros_past))]
 pub fn zeros_from(bytes: &[u8], at: usize, count: usize) -> usize
     ensures { result ≡ leading_zeros (part bytes.now at count) }
 {
-    let mut zeros: usize = 0;
-    while zeros < count {
-        let here = at + zeros;
-        if bytes.len() <= here {
-            return zeros;
-        }
-        if bytes[here] != 0 {
-            return zeros;
-        }
-        zeros += 1;
-    }
-    zeros
+    let Some(rest) = bytes.get(at..) else {
+        return 0;
+    };
+    rest.iter()
+        .take(count)
+        .take_while(|byte| **byte == 0)
+        .count()
 }
 
 // The next multiple of an alignment; of the alignment 0, only 0 is a multiple.
+#[tactic(auto, using(crate::proofs::Padding::next_multiple), unfolding(rules::specs::Bytes::round_up))]
 pub fn round_up(n: u32, alignment: u32) -> u64
     ensures { result ≡ round_up n alignment }
 {
     if alignment == 0 {
         return 0;
     }
-    let step = alignment as u64;
-    (n as u64 + (step - 1)) / step * step
+    (n as u64).next_multiple_of(alignment as u64)
 }
 
 // The length of an object with its fill. For the last seven numbers that would be 2^64, which wraps to 0.
+#[tactic(auto, unfolding(rules::specs::Bytes::padded, rules::specs::Bytes::round_up))]
 pub fn padded(n: usize) -> usize
     ensures { result ≡ padded n % 2 ^ 64 }
 {
-    std::num::wrapping_add_usize(n, 7) / 8 * 8
+    n.wrapping_add(7) / 8 * 8
 }

@@ -1,5 +1,6 @@
 -- A run of zeros, stored one by one, and that it is the rules' fill.
 -- Assumes nothing.
+use Rattle.std.specs.Prelude.{Ok}
 use mathlib.Core.Path.{◌≡◌, refl, sym, ap, ◌∙◌}
 use mathlib.Core.List.{List}
 use Prim.Native.Nat.{ℕ, suc, ◌+◌, ◌-◌, ◌≤◌, ◌<◌}
@@ -11,7 +12,6 @@ use Rattle.rules.specs.Encode as E
 use Rattle.rules.proofs.Bytes.{zeros_length}
 use Rattle.words.proofs.Stores.{sets_past, bytes_of_byte}
 use Rattle.write_leaves.specs.declared.cursor.Cursor.{Cursor}
-use Rattle.write_leaves.specs.declared.cursor.Wrote.TheVariants.{On}
 use Rattle.write_leaves.specs.Putting.{PutsInLine, Stands}
 use Rattle.write_leaves.proofs.InLine.{put_in_line}
 
@@ -50,6 +50,6 @@ module _ (before : List ℕ) (at count : ℕ) (out : List ℕ) (i : ℕ) (filled
   filled_length = simp length-sets at (ap length filled.rest)
 
 -- The cursor stays where it is.
-pub fill_put : {values out out' : List ℕ} {at : ℕ} {c : Cursor} (count : ℕ) → Stands values c → out' ≡ sets out at (zeros count) → PutsInLine values out out' count at c (On c) (E.fill count)
+pub fill_put : {values out out' : List ℕ} {at : ℕ} {c : Cursor} (count : ℕ) → Stands values c → out' ≡ sets out at (zeros count) → PutsInLine values out out' count at c (Ok c) (E.fill count)
 unfolding E.inline_bytes
 fill_put {c = c} count s stored base = put_in_line c (zeros count) (zeros_length count) stored s refl (omega arith) (omega arith)

@@ -1,5 +1,6 @@
 -- Laws of the values that stand in line: bools, numbers, handles, and runs of numbers; a law for each way that a function ends.
 -- Assumes nothing.
+use Rattle.std.specs.Prelude.{Err, Ok}
 use mathlib.Core.Path.{◌≡◌, refl, sym, ap, ◌∙◌}
 use mathlib.Core.Bool.{Bool, true, false}
 use mathlib.Core.List.{List, [], ◌∷◌, ◌++◌, append-nil}
@@ -27,9 +28,7 @@ use Rattle.words.proofs.Bits.{part_none_above}
 use Rattle.words.proofs.Stores.{sets_append, sets_past, length_bytes_of, bytes_of_byte}
 use Rattle.rules.specs.Sound.{width_allowed}
 use Rattle.write_leaves.specs.declared.cursor.Cursor.{Cursor}
-use Rattle.write_leaves.specs.declared.cursor.Wrote.{Wrote}
-use Rattle.write_leaves.specs.declared.cursor.Wrote.TheVariants.{On, Refused}
-use Rattle.write_leaves.specs.Putting.{KeptBefore, answer, Stored, Fit, Put, PutsInLine, took_one, Stands, HandlesTaken}
+use Rattle.write_leaves.specs.Putting.{Wrote, KeptBefore, answer, Stored, Fit, Put, PutsInLine, took_one, Stands, HandlesTaken}
 use Rattle.write_leaves.specs.InLine.{bool_as, handle_as, numbers_as, NoneAbove}
 use Rattle.write_leaves.proofs.Kept.{kept_all, kept_sets, kept_then}
 use Rattle.write_leaves.proofs.Results.{after_none, after_after}
@@ -43,11 +42,11 @@ left_at values i h = omega (arith, length-drop i values)
 -- Bytes in line, no object, and the cursor moved.
 pub put_in_line : {values out out' : List ℕ} {size at base : ℕ} {c : Cursor} (d : Cursor) (bytes : List ℕ) → length bytes ≡ size → out' ≡ sets out at bytes
     → Stands values d → d.next ≡ c.next → c.handles ≤ d.handles → c.index ≤ d.index
-    → Put values out out' size at base c (On d) (wrote bytes [] d.next d.handles (drop d.index values))
+    → Put values out out' size at base c (Ok d) (wrote bytes [] d.next d.handles (drop d.index values))
 put_in_line {values} d bytes whole stored s n h i =
     let taken : d.index ≡ length values - length (drop d.index values) = left_at values d.index s.left in
     record {
-      says = ap (λ (k : ℕ). On (record { next = d.next; handles = d.handles; index = k })) taken;
+      says = ap (λ (k : ℕ). Ok (record { next = d.next; handles = d.handles; index = k })) taken;
       stored = stored;
       fit = record {
         whole = whole;
@@ -62,15 +61,15 @@ put_in_line {values} d bytes whole stored s n h i =
 
 -- A refusal, after stores from the part's place on.
 put_refused : {values out out' : List ℕ} {size at base : ℕ} {c : Cursor} (number left index : ℕ) → index ≡ length values - left → KeptBefore out out' at
-    → Put values out out' size at base c (Refused (fault number (Index index))) (cannot number left)
-put_refused number left index e kept = record { says = ap (λ (k : ℕ). Refused (fault number (Index k))) e; stored = kept; fit = tt }
+    → Put values out out' size at base c (Err (fault number (Index index))) (cannot number left)
+put_refused number left index e kept = record { says = ap (λ (k : ℕ). Err (fault number (Index k))) e; stored = kept; fit = tt }
 
 -- Before anything was stored.
 pub put_cannot : {values out : List ℕ} {size at base : ℕ} {c : Cursor} (number left index : ℕ) → index ≡ length values - left
-    → Put values out out size at base c (Refused (fault number (Index index))) (cannot number left)
+    → Put values out out size at base c (Err (fault number (Index index))) (cannot number left)
 put_cannot number left index e = put_refused number left index e kept_all
 
-pub nothing_put : {values out : List ℕ} {at : ℕ} {c : Cursor} → Stands values c → PutsInLine values out out 0 at c (On c) E.nothing
+pub nothing_put : {values out : List ℕ} {at : ℕ} {c : Cursor} → Stands values c → PutsInLine values out out 0 at c (Ok c) E.nothing
 nothing_put {c} s base = put_in_line c [] refl refl s refl (omega arith) (omega arith)
 
 -- The same, of an equal size and an equal result.
@@ -81,14 +80,14 @@ put_same s f p = rw (f, ← s) p
 -- ---- handles
 
 module _ (count : ℕ) (c : Cursor) where
-  pub handles_taken : c.handles + count ≤ 64 → HandlesTaken count c (On (record { next = c.next; handles = c.handles + count; index = c.index }))
+  pub handles_taken : c.handles + count ≤ 64 → HandlesTaken count c (Ok (record { next = c.next; handles = c.handles + count; index = c.index }))
   unfolding E.take_handles
   handles_taken h values out at base s =
       let t : leb (c.handles + count) 64 ≡ true = le-leb _ _ h in
       rw t (put_in_line (record { next = c.next; handles = c.handles + count; index = c.index }) [] refl refl
       (record { free = s.free; held = h; left = s.left }) refl (omega arith) (omega arith))
 
-  pub handles_over : {r : Wrote} → 64 < c.handles + count → 0 < c.index → r ≡ Refused (fault too_many_handles (Index (c.index - 1))) → HandlesTaken count c r
+  pub handles_over : {r : Wrote} → 64 < c.handles + count → 0 < c.index → r ≡ Err (fault too_many_handles (Index (c.index - 1))) → HandlesTaken count c r
   unfolding E.take_handles
   handles_over h k e values out at base s =
       let t : leb (c.handles + count) 64 ≡ false = lt-leb _ _ h in
@@ -130,11 +129,11 @@ after_put {values} {out} {out'} {out''} {size} {at} {there} {base} {c} {r} {e} b
 
 module _ {values out : List ℕ} {size at : ℕ} {c : Cursor} (write : ℕ → WriteRecord) (continue : ℕ → Encoder) where
   pub record_ended : c.index ≤ length values → length values ≤ c.index
-      → PutsInLine values out out size at c (Refused (fault not_a_value (Index c.index))) (E.record_then write continue)
+      → PutsInLine values out out size at c (Err (fault not_a_value (Index c.index))) (E.record_then write continue)
   record_ended s h base = rw (record_short write continue values c.index c.next c.handles h) (put_cannot not_a_value 0 c.index (omega arith))
 
   module _ (v : ℕ) (h : c.index < length values) (read : v ≡ get_or values c.index 0) where
-    pub record_unfit : write v ≡ unfit → PutsInLine values out out size at c (Refused (fault not_a_value (Index c.index))) (E.record_then write continue)
+    pub record_unfit : write v ≡ unfit → PutsInLine values out out size at c (Err (fault not_a_value (Index c.index))) (E.record_then write continue)
     record_unfit w base =
         rw (record_at write continue values c.index c.next c.handles h, ← read, w)
         (put_cannot not_a_value (suc (length (drop (c.index + 1) values))) c.index (omega (arith, length-drop (c.index + 1) values)))
@@ -157,12 +156,12 @@ module _ (values : List ℕ) (c d : Cursor) (s : Stands values c) (e : d ≡ too
 -- ---- bools
 
 module _ (values out : List ℕ) (at : ℕ) (c : Cursor) (s : Stands values c) where
-  pub bool_ended : {r : Wrote} → length values ≤ c.index → r ≡ Refused (fault not_a_value (Index c.index)) → PutsInLine values out out 1 at c r bool_as
+  pub bool_ended : {r : Wrote} → length values ≤ c.index → r ≡ Err (fault not_a_value (Index c.index)) → PutsInLine values out out 1 at c r bool_as
   unfolding bool_as
   bool_ended h e = rw e (record_ended (write_number 1 bool_pattern) (λ v. E.nothing) s.left h)
 
   module _ {v : ℕ} (h : c.index < length values) (read : v ≡ get_or values c.index 0) where
-    pub bool_large : {r : Wrote} → 1 < v → r ≡ Refused (fault not_a_value (Index c.index)) → PutsInLine values out out 1 at c r bool_as
+    pub bool_large : {r : Wrote} → 1 < v → r ≡ Err (fault not_a_value (Index c.index)) → PutsInLine values out out 1 at c r bool_as
     unfolding bool_as write_number
     bool_large k e = rw e (record_unfit (write_number 1 bool_pattern) (λ v. E.nothing) v h read (either (ltb v 256) refl))
       where
@@ -170,7 +169,7 @@ module _ (values out : List ℕ) (at : ℕ) (c : Cursor) (s : Stands values c) w
         either true q = let t : leb v 1 ≡ false = lt-leb v 1 k in rw (q, t)
         either false q = rw q
 
-    pub bool_put : {out' : List ℕ} {d : Cursor} → v ≤ 1 → out' ≡ sets out at (bytes_of 1 v) → d ≡ took_one c → PutsInLine values out out' 1 at c (On d) bool_as
+    pub bool_put : {out' : List ℕ} {d : Cursor} → v ≤ 1 → out' ≡ sets out at (bytes_of 1 v) → d ≡ took_one c → PutsInLine values out out' 1 at c (Ok d) bool_as
     unfolding bool_as write_number
     bool_put k stored e =
         rw e (record_put (write_number 1 bool_pattern) (λ v. E.nothing) v h read (bytes_of 1 v) written (length_bytes_of 1 v) stored (nothing_put (took_stands s h)))
@@ -184,13 +183,13 @@ module _ (values out : List ℕ) (at : ℕ) (c : Cursor) (s : Stands values c) w
 -- ---- a handle
 
 module _ (values out : List ℕ) (optional at : ℕ) (c : Cursor) (s : Stands values c) where
-  pub handle_ended : {r : Wrote} → length values ≤ c.index → r ≡ Refused (fault not_a_value (Index c.index))
+  pub handle_ended : {r : Wrote} → length values ≤ c.index → r ≡ Err (fault not_a_value (Index c.index))
       → (t : TypeTable) → PutsInLine values out out 4 at c r (handle_as t (eqb optional 1))
   unfolding handle_as
   handle_ended h e t = rw e (record_ended (write_presence 4 ones32 (eqb optional 1)) (R.after_handle t) s.left h)
 
   module _ {v : ℕ} (h : c.index < length values) (read : v ≡ get_or values c.index 0) where
-    pub handle_large : {r : Wrote} → 1 < v → r ≡ Refused (fault not_a_value (Index c.index)) → (t : TypeTable) → PutsInLine values out out 4 at c r (handle_as t (eqb optional 1))
+    pub handle_large : {r : Wrote} → 1 < v → r ≡ Err (fault not_a_value (Index c.index)) → (t : TypeTable) → PutsInLine values out out 4 at c r (handle_as t (eqb optional 1))
     unfolding handle_as write_presence
     handle_large k e t = rw e (record_unfit (write_presence 4 ones32 (eqb optional 1)) (R.after_handle t) v h read (large v k))
       where
@@ -199,7 +198,7 @@ module _ (values out : List ℕ) (optional at : ℕ) (c : Cursor) (s : Stands va
         large (suc zero) k = absurd (omega arith)
         large (suc (suc v)) k = refl
 
-    pub handle_required : {r : Wrote} → v ≡ 0 → (optional ≡ 1 → ⊥) → r ≡ Refused (fault not_a_value (Index c.index))
+    pub handle_required : {r : Wrote} → v ≡ 0 → (optional ≡ 1 → ⊥) → r ≡ Err (fault not_a_value (Index c.index))
         → (t : TypeTable) → PutsInLine values out out 4 at c r (handle_as t (eqb optional 1))
     unfolding handle_as write_presence
     handle_required z o e t = rw e (record_unfit (write_presence 4 ones32 (eqb optional 1)) (R.after_handle t) v h read written)
@@ -208,7 +207,7 @@ module _ (values out : List ℕ) (optional at : ℕ) (c : Cursor) (s : Stands va
         written = rw (z, ne_eqb optional 1 o)
 
     pub handle_absent : {out' : List ℕ} {d : Cursor} → v ≡ 0 → optional ≡ 1 → out' ≡ sets out at (bytes_of 4 0) → d ≡ took_one c
-        → (t : TypeTable) → PutsInLine values out out' 4 at c (On d) (handle_as t (eqb optional 1))
+        → (t : TypeTable) → PutsInLine values out out' 4 at c (Ok d) (handle_as t (eqb optional 1))
     unfolding handle_as write_presence
     handle_absent z o stored e t =
         rw e (record_put (write_presence 4 ones32 (eqb optional 1)) (R.after_handle t) 0 h (sym z ∙ read) (bytes_of 4 0) written (length_bytes_of 4 0) stored (nothing_put (took_stands s h)))
@@ -293,18 +292,18 @@ module _ (width : ℕ) (values : List ℕ) (i next used : ℕ) where
         record_at (write_number width any_pattern) (λ v. E.nothing) values i next used h ∙ rw (← read, t, append-nil)
 
 module _ (values out : List ℕ) (width at : ℕ) (c : Cursor) (s : Stands values c) where
-  pub number_ended : {r : Wrote} → length values ≤ c.index → r ≡ Refused (fault not_a_value (Index c.index)) → PutsInLine values out out width at c r (encode_word width)
+  pub number_ended : {r : Wrote} → length values ≤ c.index → r ≡ Err (fault not_a_value (Index c.index)) → PutsInLine values out out width at c r (encode_word width)
   unfolding encode_word
   number_ended h e = rw e (record_ended (write_number width any_pattern) (λ v. E.nothing) s.left h)
 
   module _ {v : ℕ} (most : ℕ) (l : most + 1 ≡ 256 ^ width) (h : c.index < length values) (read : v ≡ get_or values c.index 0) where
-    pub number_large : {r : Wrote} → most < v → r ≡ Refused (fault not_a_value (Index c.index)) → PutsInLine values out out width at c r (encode_word width)
+    pub number_large : {r : Wrote} → most < v → r ≡ Err (fault not_a_value (Index c.index)) → PutsInLine values out out width at c r (encode_word width)
     unfolding encode_word write_number
     number_large k e =
         let t : ltb v (256 ^ width) ≡ false = le-ltb v (256 ^ width) (omega arith) in
         rw e (record_unfit (write_number width any_pattern) (λ v. E.nothing) v h read (rw t))
 
-    pub number_put : {out' : List ℕ} {d : Cursor} → v ≤ most → out' ≡ sets out at (bytes_of width v) → d ≡ took_one c → PutsInLine values out out' width at c (On d) (encode_word width)
+    pub number_put : {out' : List ℕ} {d : Cursor} → v ≤ most → out' ≡ sets out at (bytes_of width v) → d ≡ took_one c → PutsInLine values out out' width at c (Ok d) (encode_word width)
     unfolding encode_word write_number
     number_put k stored e =
         let t : ltb v (256 ^ width) ≡ true = lt-ltb v (256 ^ width) (omega arith) in
@@ -352,7 +351,7 @@ module _ (values before : List ℕ) (width count at : ℕ) (c : Cursor) (out : L
   run_length = kept.long
 
   pub run_all : {d : Cursor} → count ≤ i → Stands values c → d ≡ record { next = c.next; handles = c.handles; index = c.index + count }
-      → PutsInLine values before out (count * width) at c (On d) (numbers_as width count)
+      → PutsInLine values before out (count * width) at c (Ok d) (numbers_as width count)
   unfolding E.elements
   run_all h s q base = rw q (put_same refl (run.same ∙ ended (count - i) (c.index + i) (omega arith) (omega (arith, run.within)))
       (put_in_line (record { next = c.next; handles = c.handles; index = c.index + count }) run.bytes whole run.stored
@@ -383,12 +382,12 @@ module _ (values before : List ℕ) (width count at : ℕ) (c : Cursor) (out : L
         from : (n m : ℕ) → n ≡ suc m → E.after run.bytes [] (words width i n (drop (c.index + i) values) c.next c.handles) ≡ cannot number left
         from n m f = rw (f, e)
 
-    pub run_ended : {r : Wrote} → length values ≤ c.index + i → r ≡ Refused (fault not_a_value (Index (c.index + i)))
+    pub run_ended : {r : Wrote} → length values ≤ c.index + i → r ≡ Err (fault not_a_value (Index (c.index + i)))
         → PutsInLine values before out (count * width) at c r (numbers_as width count)
     run_ended h e base = rw (e, halted not_a_value 0 (word_short width values (c.index + i) c.next c.handles h)) (put_refused not_a_value 0 (c.index + i) (omega (arith, run.reached)) kept)
 
     module _ {v : ℕ} (h : c.index + i < length values) (read : v ≡ get_or values (c.index + i) 0) where
-      pub run_large : (most : ℕ) {r : Wrote} → most + 1 ≡ 256 ^ width → most < v → r ≡ Refused (fault not_a_value (Index (c.index + i)))
+      pub run_large : (most : ℕ) {r : Wrote} → most + 1 ≡ 256 ^ width → most < v → r ≡ Err (fault not_a_value (Index (c.index + i)))
           → PutsInLine values before out (count * width) at c r (numbers_as width count)
       run_large most l k e base =
           let g : 256 ^ width ≤ v = omega arith in
@@ -441,14 +440,14 @@ module _ (values before : List ℕ) (width count at most : ℕ) (c : Cursor) (s 
 
   -- An output that ends before the run is left as it was.
   pub run_past : {d : Cursor} → length before ≤ at → d ≡ record { next = c.next; handles = c.handles; index = c.index + count }
-      → PutsInLine values before before (count * width) at c (On d) (numbers_as width count)
+      → PutsInLine values before before (count * width) at c (Ok d) (numbers_as width count)
   run_past h q = from r.out (r.run.stored ∙ sets_past before at r.run.bytes h) (run_all values before width count at c r.out count r.place r.run (omega arith) s q)
     where
       r : Ran count
       r = ran count (omega arith)
 
-      from : {d : Cursor} (out : List ℕ) → out ≡ before → PutsInLine values before out (count * width) at c (On d) (numbers_as width count)
-          → PutsInLine values before before (count * width) at c (On d) (numbers_as width count)
+      from : {d : Cursor} (out : List ℕ) → out ≡ before → PutsInLine values before out (count * width) at c (Ok d) (numbers_as width count)
+          → PutsInLine values before before (count * width) at c (Ok d) (numbers_as width count)
       from out e p = rw e at p
 
 -- Bytes, one by one.

@@ -1,5 +1,6 @@
 -- Where a part that was written leads to: the cursor and the output after it, and what is asked for there.
 -- Assumes nothing.
+use Rattle.std.specs.Prelude.{Ok}
 use mathlib.Core.List.{List}
 use mathlib.Core.Path.{◌≡◌, ap, ◌∙◌}
 use Prim.Native.Nat.{ℕ, ◌+◌, ◌-◌, ◌≤◌}
@@ -8,9 +9,7 @@ use lib.ListN.{length}
 use lib.Seq.{length-sets}
 use Rattle.rules.specs.Encode.{Encoded, wrote, cannot}
 use Rattle.write_leaves.specs.declared.cursor.Cursor.{Cursor}
-use Rattle.write_leaves.specs.declared.cursor.Wrote.{Wrote}
-use Rattle.write_leaves.specs.declared.cursor.Wrote.TheVariants.{On}
-use Rattle.write_leaves.specs.Putting.{answer, Stored, Fit, Put, Stands, Ask}
+use Rattle.write_leaves.specs.Putting.{Wrote, answer, Stored, Fit, Put, Stands, Ask}
 
 pub ask_stands : {values : List ℕ} {size at base : ℕ} {c : Cursor} → Ask values size at base c → Stands values c
 ask_stands a = record { free = a.free; held = a.held; left = a.left }
@@ -23,11 +22,11 @@ wrote_length {out = out} {out'} {at = at} {base} {c} {e = e} p = go e p.stored
     go (wrote i o n u rest) s = ap length s ∙ simp length-sets
     go (cannot number left) s = s.long
 
-module _ {values out out' : List ℕ} {size at base : ℕ} {c d : Cursor} {e : Encoded} (p : Put values out out' size at base c (On d) e) where
+module _ {values out out' : List ℕ} {size at base : ℕ} {c d : Cursor} {e : Encoded} (p : Put values out out' size at base c (Ok d) e) where
   pub wrote_stands : Stands values d × (c.next ≤ d.next)
   wrote_stands = go e p.says p.fit
     where
-      go : (e : Encoded) → On d ≡ answer (length values) e → Fit values size c e → Stands values d × (c.next ≤ d.next)
+      go : (e : Encoded) → Ok d ≡ answer (length values) e → Fit values size c e → Stands values d × (c.next ≤ d.next)
       go (wrote i o n u rest) a f =
           let same : d ≡ record { next = n; handles = u; index = length values - length rest } = cc in
           rw same (record { free = f.short; held = f.few; left = omega arith }, omega (arith, f.claimed))

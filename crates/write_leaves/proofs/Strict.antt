@@ -1,6 +1,6 @@
 -- Strict enums and strict bits: one value, and what is left of a run of them.
 -- Assumes nothing.
-use Rattle.std.specs.Prelude.{if◌then◌else◌}
+use Rattle.std.specs.Prelude.{if◌then◌else◌, Err}
 use mathlib.Core.Bool.{Bool, true, false, ◌&&◌}
 use mathlib.Core.List.{List}
 use mathlib.Core.Path.{◌≡◌, refl, sym}
@@ -21,15 +21,14 @@ use Rattle.rules.proofs.Tests.{both}
 use Rattle.words.proofs.Stores.{length_bytes_of}
 use Rattle.strict.specs.Strict.{allowed, strict_pattern, StrictRow}
 use Rattle.strict.proofs.Numbers.{row_allows}
-use Rattle.nesting.proofs.Runs.{RunLeft, run_next, run_stopped, run_one}
+use Rattle.nesting.proofs.Runs.{RunLeft, run_stopped, run_one}
 use Rattle.write_leaves.specs.declared.cursor.Cursor.{Cursor}
-use Rattle.write_leaves.specs.declared.cursor.Wrote.{Wrote}
-use Rattle.write_leaves.specs.declared.cursor.Wrote.TheVariants.{Refused}
-use Rattle.write_leaves.specs.Putting.{took_one}
+use Rattle.write_leaves.specs.Putting.{Wrote, took_one}
 use Rattle.write_leaves.specs.InLine.{strict_as}
 use Rattle.write_leaves.specs.Planning.{PutAsked}
 use Rattle.write_leaves.proofs.InLine.{record_ended, record_unfit, record_put, took_stands, nothing_put}
 use Rattle.write_leaves.proofs.Leading.{ask_stands}
+use Rattle.nesting.proofs.Counted.{turns_next}
 use Rattle.write_leaves.proofs.Writing.{writing_any}
 
 -- What is left of a run of them.
@@ -63,26 +62,26 @@ module _ {rows entries : List ℕ} {row : ℕ} (sound : StrictRow rows entries r
       go false known = refl
 
   -- In a run of them.
-  module _ (values : List ℕ) {grow at left place : ℕ} {whole : Encoder} {o : List ℕ} {c : Cursor} {out : List ℕ} {d : Cursor}
-      (run : RunLeft (writing_any values) (a_in rows row) (λ i. strict_as rows entries row) grow at whole o c out d 0 left place) (more : 0 < left)
+  module _ (values : List ℕ) {grow at count i place : ℕ} {whole : Encoder} {o : List ℕ} {c : Cursor} {out : List ℕ} {d : Cursor}
+      (run : RunLeft (writing_any values) (a_in rows row) (λ k. strict_as rows entries row) grow at whole o c out d 0 (count - i) place) (more : i < count)
       (h : d.index < length values) (read : v ≡ get_or values d.index 0) where
-    pub strict_stopped : {r : Wrote} → leb v most && test ≡ false → r ≡ Refused (fault not_a_value (Index d.index)) → PutAsked values o out grow at c r whole
+    pub strict_stopped : {r : Wrote} → leb v most && test ≡ false → r ≡ Err (fault not_a_value (Index d.index)) → PutAsked values o out grow at c r whole
     unfolding strict_as
     strict_stopped e z =
-        rw z (run_stopped run more (λ base a. record_unfit (write_number (a_in rows row) (strict_pattern rows entries row)) (λ v. E.nothing) v h read (written e) base) refl)
+        rw z (run_stopped run (omega arith) (λ base a. record_unfit (write_number (a_in rows row) (strict_pattern rows entries row)) (λ v. E.nothing) v h read (written e) base) refl)
 
     pub strict_next : {out' : List ℕ} {e : Cursor} → leb v most && test ≡ true → out' ≡ sets out place (bytes_of width v) → e ≡ took_one d
-        → RunLeft (writing_any values) (a_in rows row) (λ i. strict_as rows entries row) grow at whole o c out' e 0 (left - 1) (place + width)
+        → RunLeft (writing_any values) (a_in rows row) (λ k. strict_as rows entries row) grow at whole o c out' e 0 (count - (i + 1)) (place + width)
     unfolding strict_as
     strict_next e stored t =
-        rw t (run_next run more
+        rw t (turns_next run more
         (λ base a. record_put (write_number (a_in rows row) (strict_pattern rows entries row)) (λ v. E.nothing) v h read (bytes_of (a_in rows row) v) (written e) (length_bytes_of (a_in rows row) v)
         (rw w at stored) (nothing_put (took_stands (ask_stands a) h)) base) (sym w) refl)
 
 -- The list ended early.
 pub strict_ended : {rows entries : List ℕ} {row : ℕ} → StrictRow rows entries row → (values : List ℕ) {grow at left place : ℕ} {whole : Encoder} {o : List ℕ} {c : Cursor} {out : List ℕ} {d : Cursor} {r : Wrote}
     → RunLeft (writing_any values) (a_in rows row) (λ i. strict_as rows entries row) grow at whole o c out d 0 left place → 0 < left
-    → length values ≤ d.index → r ≡ Refused (fault not_a_value (Index d.index)) → PutAsked values o out grow at c r whole
+    → length values ≤ d.index → r ≡ Err (fault not_a_value (Index d.index)) → PutAsked values o out grow at c r whole
 unfolding strict_as
 strict_ended {rows} {entries} {row} sound values run more h z =
     rw z (run_stopped run more (λ base a. record_ended (write_number (a_in rows row) (strict_pattern rows entries row)) (λ v. E.nothing) a.left h base) refl)

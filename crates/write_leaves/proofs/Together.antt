@@ -1,5 +1,6 @@
 -- How parts of the writer go together: the code's answers and its output, along the rules' own ways of putting parts
 -- together. Assumes nothing.
+use Rattle.std.specs.Prelude.{Err, Ok}
 use mathlib.Core.Path.{◌≡◌, refl, sym, ap, ◌∙◌}
 use mathlib.Core.List.{List, ◌++◌}
 use Prim.Native.Nat.{ℕ, ◌+◌, ◌-◌, ◌≤◌}
@@ -11,9 +12,7 @@ use Rattle.rules.specs.Encode as E
 use Rattle.rules.specs.Encode.{Encoded, wrote, cannot, Encoder}
 use Rattle.words.proofs.Stores.{sets_append, sets_comm}
 use Rattle.write_leaves.specs.declared.cursor.Cursor.{Cursor}
-use Rattle.write_leaves.specs.declared.cursor.Wrote.{Wrote}
-use Rattle.write_leaves.specs.declared.cursor.Wrote.TheVariants.{On, Refused}
-use Rattle.write_leaves.specs.Putting.{KeptBefore, answer, Stored, Fits, Fit, Put, Puts}
+use Rattle.write_leaves.specs.Putting.{Wrote, KeptBefore, answer, Stored, Fits, Fit, Put, Puts}
 use Rattle.write_leaves.proofs.Kept.{kept_sets, kept_then}
 
 -- Two parts, each with its bytes in line and its objects: all that stands in line comes before all objects.
@@ -26,7 +25,7 @@ both_stored out at free i o j p h =
 
 -- A part that was written, and then the rest.
 pub put_then : {values out out' out'' : List ℕ} {first second at base : ℕ} {c d : Cursor} {r : Wrote} {e : Encoded} (k : Encoder)
-    → Put values out out' first at base c (On d) e → Puts values out' out'' second (at + first) base d r k
+    → Put values out out' first at base c (Ok d) e → Puts values out' out'' second (at + first) base d r k
     → base + (at + (first + second)) ≤ c.next → Put values out out'' (first + second) at base c r (E.and_then e k)
 put_then {values} {out} {out'} {out''} {first} {second} {at} {base} {c} {d} {r} {e} k p q z = go e p.says p.stored p.fit
   where
@@ -53,7 +52,7 @@ put_then {values} {out} {out'} {out''} {first} {second} {at} {base} {c} {d} {r} 
         let first-kept : KeptBefore out out' at = kept_then (c.next - base) (omega (arith, z)) (kept_sets at i (omega arith) refl) (kept_sets (c.next - base) o (omega arith) s) in
         record { says = a; stored = kept_then (at + first) (omega arith) first-kept t; fit = tt }
 
-    go : (e : Encoded) → On d ≡ answer (length values) e → Stored out out' at (c.next - base) e → Fit values first c e → Put values out out'' (first + second) at base c r (E.and_then e k)
+    go : (e : Encoded) → Ok d ≡ answer (length values) e → Stored out out' at (c.next - base) e → Fit values first c e → Put values out out'' (first + second) at base c r (E.and_then e k)
     go (wrote i o n u rest) a s f =
         let same : d ≡ record { next = n; handles = u; index = length values - length rest } = cc in
         let q' = rw (same, ← f.left) at q in
@@ -62,9 +61,9 @@ put_then {values} {out} {out'} {out''} {first} {second} {at} {base} {c} {d} {r} 
 
 -- A part that was refused, whatever was to follow.
 pub put_halt : {values out out' : List ℕ} {size at base : ℕ} (whole : ℕ) {c : Cursor} {f : Fault} {e : Encoded} (k : Encoder)
-    → Put values out out' size at base c (Refused f) e → Put values out out' whole at base c (Refused f) (E.and_then e k)
+    → Put values out out' size at base c (Err f) e → Put values out out' whole at base c (Err f) (E.and_then e k)
 put_halt {values} {out} {out'} {size} {at} {base} whole {c} {f} {e} k p = go e p.says p.stored
   where
-    go : (e : Encoded) → Refused f ≡ answer (length values) e → Stored out out' at (c.next - base) e → Put values out out' whole at base c (Refused f) (E.and_then e k)
+    go : (e : Encoded) → Err f ≡ answer (length values) e → Stored out out' at (c.next - base) e → Put values out out' whole at base c (Err f) (E.and_then e k)
     go (wrote i o n u rest) a s = absurd (let w : ◌≡◌ {A = ℕ} 0 1 = cc in omega arith)
     go (cannot number left) a s = record { says = a; stored = s; fit = tt }

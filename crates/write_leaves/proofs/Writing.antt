@@ -1,5 +1,6 @@
 -- Writing, as an algebra of parts: a part of the writer is lent the output, and puts its bytes in line at a place of it.
 -- Assumes nothing.
+use Rattle.std.specs.Prelude.{Err, Ok}
 use mathlib.Core.List.{List, [], ◌∷◌}
 use mathlib.Core.Path.{◌≡◌, refl, sym, fun_ext}
 use Prim.Native.Nat.{ℕ, ◌+◌}
@@ -14,9 +15,7 @@ use Rattle.nesting.proofs.Algebra.{Grouping, Algebra, Leading, Doing}
 use Rattle.nesting.proofs.Items.{items_of}
 use Rattle.nesting.proofs.Work.{run}
 use Rattle.write_leaves.specs.declared.cursor.Cursor.{Cursor}
-use Rattle.write_leaves.specs.declared.cursor.Wrote.{Wrote}
-use Rattle.write_leaves.specs.declared.cursor.Wrote.TheVariants.{On, Refused}
-use Rattle.write_leaves.specs.Putting.{Puts, Ask}
+use Rattle.write_leaves.specs.Putting.{Wrote, Puts, Ask}
 use Rattle.write_leaves.specs.Planning.{PutAsked}
 use Rattle.write_leaves.proofs.InLine.{nothing_put}
 use Rattle.write_leaves.proofs.Leading.{ask_stands, ask_rest}
@@ -53,7 +52,7 @@ run_fields layouts inner (field row fill ∷ fs) = rw (run_fields layouts inner 
 abbrev pub PutPart : (values : List ℕ) (base size place : ℕ) (out out' : List ℕ) → Cursor → Wrote → Encoder → Type 0
 PutPart values base size place out out' c r p = Puts values out out' size place base c r p
 
-pub put_leads : (values : List ℕ) (base : ℕ) → Leading encoders Cursor (List ℕ) Wrote On Refused (λ size place c. Ask values size place base c) (PutPart values base)
+pub put_leads : (values : List ℕ) (base : ℕ) → Leading encoders Cursor (List ℕ) Wrote Ok Err (λ size place c. Ask values size place base c) (PutPart values base)
 unfolding E.sequence
 put_leads values base = record {
   ask_first = λ first rest a. record { inside = omega (arith, a.inside); free = a.free; held = a.held; left = a.left };
@@ -64,14 +63,14 @@ put_leads values base = record {
 }
 
 abbrev pub writing : (values : List ℕ) (base : ℕ) → Doing encoders
-writing values base = record { Cursor = Cursor; Lent = List ℕ; Answer = Wrote; on = On; refused = Refused; Ask = λ size place c. Ask values size place base c; Did = PutPart values base; laws = put_leads values base }
+writing values base = record { Cursor = Cursor; Lent = List ℕ; Answer = Wrote; on = Ok; refused = Err; Ask = λ size place c. Ask values size place base c; Did = PutPart values base; laws = put_leads values base }
 
 -- ---- at any place of a message that they are asked for at
 
 abbrev pub PutAny : (values : List ℕ) (size place : ℕ) (out out' : List ℕ) → Cursor → Wrote → Encoder → Type 0
 PutAny values size place out out' c r p = PutAsked values out out' size place c r p
 
-pub any_leads : (values : List ℕ) → Leading encoders Cursor (List ℕ) Wrote On Refused (λ size place c. Ask values size place 0 c) (PutAny values)
+pub any_leads : (values : List ℕ) → Leading encoders Cursor (List ℕ) Wrote Ok Err (λ size place c. Ask values size place 0 c) (PutAny values)
 any_leads values = record {
   ask_first = λ first rest a. (put_leads values 0).ask_first first rest a;
   ask_rest = λ first rest place p a put. (put_leads values 0).ask_rest first rest place p a (put 0 ((put_leads values 0).ask_first first rest a));
@@ -83,4 +82,4 @@ any_leads values = record {
 }
 
 abbrev pub writing_any : (values : List ℕ) → Doing encoders
-writing_any values = record { Cursor = Cursor; Lent = List ℕ; Answer = Wrote; on = On; refused = Refused; Ask = λ size place c. Ask values size place 0 c; Did = PutAny values; laws = any_leads values }
+writing_any values = record { Cursor = Cursor; Lent = List ℕ; Answer = Wrote; on = Ok; refused = Err; Ask = λ size place c. Ask values size place 0 c; Did = PutAny values; laws = any_leads values }

@@ -1,13 +1,13 @@
 -- What the functions of planned.rt promise.
 -- Assumes nothing.
 use Rattle.std.specs.Prelude.{List, ℕ, eqb, if◌then◌else◌}
-use Rattle.rules.specs.Sizes.{Field}
 use Rattle.rules.specs.Encode.{Encoder}
 use Rattle.rules.specs.Envelope.{encode_word}
 use Rattle.rules.specs.Writer as R
+use Rattle.plans.specs.declared.Part.{Part}
+use Rattle.plans.specs.Plans.{part_fields}
 use Rattle.write_leaves.specs.declared.cursor.Cursor.{Cursor}
-use Rattle.write_leaves.specs.declared.cursor.Wrote.{Wrote}
-use Rattle.write_leaves.specs.Putting.{Puts, Ask}
+use Rattle.write_leaves.specs.Putting.{Wrote, Puts, Ask}
 use Rattle.write_leaves.specs.InLine.{bool_as}
 
 -- A bool, or a number of a width.
@@ -15,8 +15,8 @@ abbrev pub width_as : (width : ℕ) → Encoder
 width_as width = if eqb width 0 then bool_as else encode_word width
 
 -- The parts of a plan, with the fill after each.
-abbrev pub parts_as : List Field → Encoder
-parts_as parts = R.fields width_as parts
+abbrev pub parts_as : List Part → Encoder
+parts_as parts = R.fields width_as (part_fields parts)
 
 -- Put at any place of a message that it is asked for at.
 abbrev pub PutAsked : (values out out' : List ℕ) (size at : ℕ) (c : Cursor) (r : Wrote) → Encoder → Type 0

@@ -1,19 +1,22 @@
 -- How the code's answers and its output stand to the rules' writer.
 -- Assumes nothing.
-use Rattle.std.specs.Prelude.{List, ◌≡◌, ℕ, ◌+◌, ◌-◌, ◌≤◌, length, take, drop}
+use Rattle.std.specs.Prelude.{List, ◌≡◌, ℕ, ◌+◌, ◌-◌, ◌≤◌, length, take, drop, Result, Err, Ok}
 use Rattle.std.proofs.lemmas.List.Edits.{sets}
+use Rattle.rules.specs.declared.Fault.{Fault}
 use Rattle.rules.specs.declared.Place.TheVariants.{Index}
 use Rattle.rules.specs.Refusals.{fault}
 use Rattle.rules.specs.Encode.{Encoded, wrote, cannot, Encoder, take_handles}
 use Rattle.write_leaves.specs.declared.cursor.Cursor.{Cursor}
-use Rattle.write_leaves.specs.declared.cursor.Wrote.{Wrote}
-use Rattle.write_leaves.specs.declared.cursor.Wrote.TheVariants.{On, Refused}
+
+-- A part of the writer went on to a cursor, or was refused.
+abbrev pub Wrote : Type 0
+Wrote = Result Cursor Fault
 
 -- The code's answer for a result of the rules, from a value list of so many numbers: the list is never cut, an index tells how
 -- far it is taken.
 abbrev pub answer : (total : ℕ) → Encoded → Wrote
-answer total (wrote inline outside next used rest) = On (record { next = next; handles = used; index = total - length rest })
-answer total (cannot number left) = Refused (fault number (Index (total - left)))
+answer total (wrote inline outside next used rest) = Ok (record { next = next; handles = used; index = total - length rest })
+answer total (cannot number left) = Err (fault number (Index (total - left)))
 
 -- Of an output that was stored in from a place on: it is as long as before, and nothing before the place changes.
 pub record KeptBefore (out out' : List ℕ) (at : ℕ) : Type 0 where

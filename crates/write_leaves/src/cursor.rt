@@ -1,12 +1,13 @@
-// Where the writer stands, and what it answers.
-ghost use Rattle.std.specs.Prelude.{◌≡◌, List, ◌+◌, ◌≤◌, ◌<◌, length};
+// Where the writer stands. A part of the writer answers where it went on to, or a refusal.
+ghost use Rattle.std.specs.Prelude.{◌≡◌, List, ◌+◌, ◌≤◌, ◌<◌, length, Err};
 ghost use Rattle.std.proofs.lemmas.List.Edits.{sets};
-ghost use Rattle.rules.specs.Refusals.{fault};
+ghost use Rattle.rules.specs.Refusals.{fault, number_of};
 ghost use Rattle.rules.specs.Bytes.{zeros};
 ghost use Rattle.rules.specs.Encode.{take_handles};
 ghost use Rattle.write_leaves.specs.Putting.{took_one, Stands, HandlesTaken};
 
-use rules::{Fault, Place};
+use rules::{Fault, Place, Refusal};
+use words::Word;
 
 // The next free byte of the message, the handles used, and how many numbers of the value list were taken.
 #[derive(Clone, Copy)]
@@ -16,38 +17,10 @@ pub struct Cursor {
     pub index: usize,
 }
 
-// A part of the value was written, or refused.
-#[derive(Clone, Copy)]
-pub enum Wrote {
-    On(Cursor),
-    Refused(Fault),
-}
-
-// A refusal at a number of the value list.
-pub fn fault_at(number: u32, index: usize) -> Fault
-    ensures { result ≡ fault number (Place.Index index) }
+pub fn refused(refusal: Refusal, index: usize) -> Result<Cursor, Fault>
+    ensures { result ≡ Err (fault (number_of refusal) (Place.Index index)) }
 {
-    Fault {
-        number,
-        place: Place::Index(index),
-    }
-}
-
-pub fn refused(number: u32, index: usize) -> Wrote
-    ensures { result ≡ Wrote.Refused (fault number (Place.Index index)) }
-{
-    Wrote::Refused(fault_at(number, index))
-}
-
-// A callee's answer, made anew from its parts: copied whole, it would be loaded in other pieces than it was stored in, which
-// costs more than the call.
-pub fn passed_on(answer: Wrote) -> Wrote
-    ensures { result ≡ answer }
-{
-    match answer {
-        Wrote::On(c) => Wrote::On(c),
-        Wrote::Refused(f) => Wrote::Refused(f),
-    }
+    Err(refusal.at(Place::Index(index)))
 }
 
 // The cursor after one more number.
@@ -63,15 +36,15 @@ pub fn took(c: Cursor) -> Cursor
 }
 
 // So many handles more: 4 at the number taken last.
-pub fn with_handles(count: usize, c: Cursor) -> Wrote
+pub fn with_handles(count: usize, c: Cursor) -> Result<Cursor, Fault>
     requires { (count < 65536) × (c.handles ≤ 64) × (0 < c.index) }
     ensures { HandlesTaken count c result }
 {
     let used = c.handles + count;
     if 64 < used {
-        return refused(4, c.index - 1);
+        return refused(Refusal::TooManyHandles, c.index - 1);
     }
-    Wrote::On(Cursor {
+    Ok(Cursor {
         next: c.next,
         handles: used,
         index: c.index,
@@ -86,9 +59,7 @@ pub fn put_zeros(out: &mut [u8], at: usize, count: usize)
     if out.len() <= at {
         return;
     }
-    let mut i = 0;
-    while i < count {
-        words::store8(out, at + i, 0);
-        i += 1;
+    for i in 0..count {
+        u8::store(out, at + i, 0);
     }
 }

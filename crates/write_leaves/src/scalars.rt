@@ -8,21 +8,23 @@ ghost use Rattle.rules.specs.Sound.{width_allowed};
 ghost use Rattle.write_leaves.specs.Putting.{Stands, PutsInLine};
 ghost use Rattle.write_leaves.specs.InLine.{bool_as, handle_as, numbers_as, NoneAbove};
 
-use crate::cursor::{Cursor, Wrote, refused, took, with_handles};
+use crate::cursor::{Cursor, refused, took, with_handles};
+use rules::{Fault, Refusal};
+use words::Word;
 
-pub fn boolean(values: &[u64], out: &mut [u8], at: usize, c: Cursor) -> Wrote
+pub fn boolean(values: &[u64], out: &mut [u8], at: usize, c: Cursor) -> Result<Cursor, Fault>
     requires { Stands values.now c }
     ensures { PutsInLine values.now out.old out.new 1 at c result bool_as }
 {
     if values.len() <= c.index {
-        return refused(26, c.index);
+        return refused(Refusal::NotAValue, c.index);
     }
-    let v = words::value_at(values, c.index);
+    let v = words::item_at(values, c.index);
     if 1 < v {
-        return refused(26, c.index);
+        return refused(Refusal::NotAValue, c.index);
     }
-    words::store8(out, at, v as u8);
-    Wrote::On(took(c))
+    u8::store(out, at, v as u8);
+    Ok(took(c))
 }
 
 // The largest number of a width.
@@ -47,51 +49,73 @@ pub(crate) fn put_word(out: &mut [u8], width: u32, at: usize, v: u64)
     ensures { out.new ≡ sets out.old at (bytes_of width v) }
 {
     if width == 1 {
-        words::store8(out, at, v as u8);
+        u8::store(out, at, v as u8);
     } else if width == 2 {
-        words::store16(out, at, v as u16);
+        u16::store(out, at, v as u16);
     } else if width == 4 {
-        words::store32(out, at, v as u32);
+        u32::store(out, at, v as u32);
     } else {
-        words::store64(out, at, v);
+        u64::store(out, at, v);
     }
 }
 
-pub fn number(values: &[u64], out: &mut [u8], width: u32, at: usize, c: Cursor) -> Wrote
-    requires { (width_allowed width ≡ true) × Stands values.now c × (at + width ≤ 65536) }
+// A number of a width. Past the output's end, where the pass that measures stores all, nothing is looked at.
+pub(crate) fn put_number(out: &mut [u8], width: u32, at: usize, v: u64)
+    requires { (width_allowed width ≡ true) × (v < 256 ^ width) }
+    ensures { out.new ≡ sets out.old at (bytes_of width v) }
+{
+    if at < out.len() {
+        put_word(out, width, at, v);
+    }
+}
+
+pub fn number(
+    values: &[u64],
+    out: &mut [u8],
+    width: u32,
+    at: usize,
+    c: Cursor,
+) -> Result<Cursor, Fault>
+    requires { (width_allowed width ≡ true) × Stands values.now c }
     ensures { PutsInLine values.now out.old out.new width at c result (encode_word width) }
 {
     if values.len() <= c.index {
-        return refused(26, c.index);
+        return refused(Refusal::NotAValue, c.index);
     }
-    let v = words::value_at(values, c.index);
+    let v = words::item_at(values, c.index);
     if largest(width) < v {
-        return refused(26, c.index);
+        return refused(Refusal::NotAValue, c.index);
     }
-    put_word(out, width, at, v);
-    Wrote::On(took(c))
+    put_number(out, width, at, v);
+    Ok(took(c))
 }
 
 // A handle: 1 or 0.
-pub fn handle(values: &[u64], out: &mut [u8], optional: u32, at: usize, c: Cursor) -> Wrote
+pub fn handle(
+    values: &[u64],
+    out: &mut [u8],
+    optional: u32,
+    at: usize,
+    c: Cursor,
+) -> Result<Cursor, Fault>
     requires { Stands values.now c }
     ensures { (t : TypeTable) → PutsInLine values.now out.old out.new 4 at c result (handle_as t (eqb optional 1)) }
 {
     if values.len() <= c.index {
-        return refused(26, c.index);
+        return refused(Refusal::NotAValue, c.index);
     }
-    let v = words::value_at(values, c.index);
+    let v = words::item_at(values, c.index);
     if 1 < v {
-        return refused(26, c.index);
+        return refused(Refusal::NotAValue, c.index);
     }
     if v == 0 {
         if optional != 1 {
-            return refused(26, c.index);
+            return refused(Refusal::NotAValue, c.index);
         }
-        words::store32(out, at, 0);
-        return Wrote::On(took(c));
+        u32::store(out, at, 0);
+        return Ok(took(c));
     }
-    words::store32(out, at, 4294967295);
+    u32::store(out, at, 4294967295);
     with_handles(1, took(c))
 }
 
@@ -107,7 +131,7 @@ fn are_within(values: &[u64], most: u64, from: usize, count: usize) -> bool
         return true;
     }
     let end = from + count;
-    words::value_bits(&values[from..end]) <= most
+    words::bits_of(&values[from..end]) <= most
 }
 
 // The cursor after so many numbers.
@@ -123,41 +147,50 @@ fn took_all(c: Cursor, count: usize) -> Cursor
 }
 
 // Numbers of one byte, all of them in the list and within it, where there is room for all.
-fn put_bytes(values: &[u64], out: &mut [u8], count: usize, at: usize, c: Cursor) -> Wrote
+fn put_bytes(
+    values: &[u64],
+    out: &mut [u8],
+    count: usize,
+    at: usize,
+    c: Cursor,
+) -> Result<Cursor, Fault>
     requires { Stands values.now c × (c.index + count ≤ length values.now) × NoneAbove values.now c.index count 255 × (at + count ≤ length out.old) }
     ensures { PutsInLine values.now out.old out.new (count * 1) at c result (numbers_as 1 count) }
 {
     let from = c.index;
-    let mut i = 0;
-    while i < count {
+    for i in 0..count {
         out[at + i] = values[from + i] as u8;
-        i += 1;
     }
-    Wrote::On(took_all(c, count))
+    Ok(took_all(c, count))
 }
 
 // Numbers of a width one by one, each judged before it is put.
-fn put_each(values: &[u64], out: &mut [u8], width: u32, count: usize, at: usize, c: Cursor) -> Wrote
+fn put_each(
+    values: &[u64],
+    out: &mut [u8],
+    width: u32,
+    count: usize,
+    at: usize,
+    c: Cursor,
+) -> Result<Cursor, Fault>
     requires { (width_allowed width ≡ true) × Stands values.now c × (at + count * width ≤ 65536) }
     ensures { PutsInLine values.now out.old out.new (count * width) at c result (numbers_as width count) }
 {
     let most = largest(width);
-    let mut i = 0;
     let mut p = at;
-    while i < count {
+    for i in 0..count {
         let index = c.index + i;
         if values.len() <= index {
-            return refused(26, index);
+            return refused(Refusal::NotAValue, index);
         }
-        let v = words::value_at(values, index);
+        let v = words::item_at(values, index);
         if most < v {
-            return refused(26, index);
+            return refused(Refusal::NotAValue, index);
         }
         put_word(out, width, p, v);
-        i += 1;
         p += width as usize;
     }
-    Wrote::On(took_all(c, count))
+    Ok(took_all(c, count))
 }
 
 // A run of numbers of a width. Where the output has no room they are judged only, and bytes that all have room are put
@@ -169,13 +202,13 @@ pub fn numbers(
     count: usize,
     at: usize,
     c: Cursor,
-) -> Wrote
+) -> Result<Cursor, Fault>
     requires { (width_allowed width ≡ true) × Stands values.now c × (at + count * width ≤ 65536) }
     ensures { PutsInLine values.now out.old out.new (count * width) at c result (numbers_as width count) }
 {
     if out.len() <= at {
         if are_within(values, largest(width), c.index, count) {
-            return Wrote::On(took_all(c, count));
+            return Ok(took_all(c, count));
         }
     } else if width == 1 {
         if count <= out.len() - at {

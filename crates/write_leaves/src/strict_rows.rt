@@ -7,9 +7,9 @@ ghost use Rattle.write_leaves.specs.Putting.{Ask};
 ghost use Rattle.write_leaves.specs.InLine.{strict_as};
 ghost use Rattle.write_leaves.specs.Planning.{PutAsked};
 
-use crate::cursor::{Cursor, Wrote, refused, took};
-use crate::planned::put_number;
-use crate::scalars::largest;
+use crate::cursor::{Cursor, refused, took};
+use crate::scalars::{largest, put_number};
+use rules::{Fault, Refusal};
 
 // Values of a strict enum or of strict bits, one after the other: 26, at the first that its entries don't allow.
 pub fn strict_values(
@@ -21,7 +21,7 @@ pub fn strict_values(
     count: usize,
     at: usize,
     c: Cursor,
-) -> Wrote
+) -> Result<Cursor, Fault>
     requires { StrictRow rows.now entries.now row × Ask values.now (count * a_in rows.now row) at 0 c }
     ensures { PutAsked values.now out.old out.new (count * a_in rows.now row) at c result
         (elements (λ i. strict_as rows.now entries.now row) 0 count) }
@@ -33,21 +33,19 @@ pub fn strict_values(
     let most = largest(width);
     let mut d = c;
     let mut place = at;
-    let mut left = count;
-    while 0 < left {
+    for _ in 0..count {
         let index = d.index;
         if values.len() <= index {
-            return refused(26, index);
+            return refused(Refusal::NotAValue, index);
         }
-        let v = words::value_at(values, index);
+        let v = words::item_at(values, index);
         let fits = (v <= most) & strict::allows(entries, kind, first, named, v);
         if !fits {
-            return refused(26, index);
+            return refused(Refusal::NotAValue, index);
         }
         put_number(out, width, place, v);
         d = took(d);
         place += width as usize;
-        left -= 1;
     }
-    Wrote::On(d)
+    Ok(d)
 }

@@ -12,8 +12,7 @@ use Rattle.rules.specs.Encode.{Encoded, wrote, cannot}
 use Rattle.rules.proofs.Bytes.{padded_above}
 use Rattle.words.proofs.Stores.{sets_append, sets_comm}
 use Rattle.write_leaves.specs.declared.cursor.Cursor.{Cursor}
-use Rattle.write_leaves.specs.declared.cursor.Wrote.{Wrote}
-use Rattle.write_leaves.specs.Putting.{answer, Stored, Fit, Put}
+use Rattle.write_leaves.specs.Putting.{Wrote, answer, Stored, Fit, Put}
 use Rattle.write_records.specs.Opening.{opened}
 use Rattle.write_leaves.proofs.Kept.{kept_sets, kept_then}
 

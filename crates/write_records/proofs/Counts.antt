@@ -1,5 +1,6 @@
 -- A count with its presence, by the tests that the code makes, and what it leads to.
 -- Assumes nothing.
+use Rattle.std.specs.Prelude.{Err, Ok, Result, IfOk}
 use mathlib.Core.Path.{◌≡◌, refl, sym, ap, ◌∙◌}
 use mathlib.Core.Bool.{Bool, true, false}
 use mathlib.Core.List.{List}
@@ -25,10 +26,10 @@ use Rattle.layout.specs.Ready.{some_table}
 use Rattle.write_leaves.specs.declared.cursor.Cursor.{Cursor}
 use Rattle.write_records.specs.declared.records.Opening.{Opening}
 use Rattle.write_records.specs.declared.records.Opened.{Opened}
-use Rattle.write_records.specs.declared.records.Opened.TheVariants.{Closed, Open, Refused}
+use Rattle.write_records.specs.declared.records.Opened.TheVariants.{Closed, Open}
 use Rattle.write_leaves.specs.Putting.{took_one, Stands, Ask}
-use Rattle.write_records.specs.Opening.{opened, claimed_from}
-use Rattle.write_records.specs.Promises.{HasCount, DeeperOpens, after_count, CountedOpens, VectorOpens}
+use Rattle.write_records.specs.Opening.{opened, claimed_from, to_open}
+use Rattle.write_records.specs.Promises.{DeeperOpens, after_count, CountedOpens, VectorOpens}
 use Rattle.write_leaves.proofs.InLine.{record_ended, record_unfit, record_put, nothing_put, took_stands}
 use Rattle.write_records.proofs.Openings.{record_same, ask_took, record_opens, opens_same}
 
@@ -79,16 +80,16 @@ module _ {count largest size : ℕ} (bounded : count ≤ largest) (f : Fits w32 
 -- ---- what it leads to
 
 module _ (values out : List ℕ) (depth at : ℕ) (c : Cursor) (size largest optional : ℕ) (s : Stands values c) where
-  pub counted_ended : {f : Fault} → length values ≤ c.index → f ≡ fault not_a_value (Index c.index) → CountedOpens values out out depth at c size largest optional (Refused f)
+  pub counted_ended : {f : Fault} → length values ≤ c.index → f ≡ fault not_a_value (Index c.index) → CountedOpens values out out depth at c size largest optional (Err f)
   counted_ended h e t base fields ask = rw e (record_ended (write_count (eqb optional 1) largest) (after_count (R.levels t depth) size fields) s.left h base)
 
   module _ {v : ℕ} (h : c.index < length values) (read : v ≡ get_or values c.index 0) where
-    pub counted_required : {f : Fault} → v ≡ 0 → (optional ≡ 1 → ⊥) → f ≡ fault not_a_value (Index c.index) → CountedOpens values out out depth at c size largest optional (Refused f)
+    pub counted_required : {f : Fault} → v ≡ 0 → (optional ≡ 1 → ⊥) → f ≡ fault not_a_value (Index c.index) → CountedOpens values out out depth at c size largest optional (Err f)
     counted_required z o e t base fields ask =
         rw e (record_unfit (write_count (eqb optional 1) largest) (after_count (R.levels t depth) size fields) v h read (writes_required optional largest v z o) base)
 
     pub counted_absent : {half whole : List ℕ} {d : Cursor} → v ≡ 0 → optional ≡ 1 → half ≡ sets out at (bytes_of 8 0) → whole ≡ sets half (at + 8) (bytes_of 8 0) → d ≡ took_one c
-        → CountedOpens values out whole depth at c size largest optional (Closed d)
+        → CountedOpens values out whole depth at c size largest optional (Ok (Closed d))
     counted_absent z o p q e t base fields ask =
         rw e (record_put (write_count (eqb optional 1) largest) (after_count (R.levels t depth) size fields) 0 h (sym z ∙ read) (count_bytes 0 0) (writes_none optional largest o)
         (count_length 0 0) (count_stored out at 0 0 p q) (nothing_put (took_stands s h)) base)
@@ -97,23 +98,23 @@ module _ (values out : List ℕ) (depth at : ℕ) (c : Cursor) (size largest opt
       next : v ≡ suc (v - 1)
       next = omega arith
 
-      pub counted_over : {f : Fault} → largest < v - 1 → f ≡ fault not_a_value (Index c.index) → CountedOpens values out out depth at c size largest optional (Refused f)
+      pub counted_over : {f : Fault} → largest < v - 1 → f ≡ fault not_a_value (Index c.index) → CountedOpens values out out depth at c size largest optional (Err f)
       counted_over k e t base fields ask =
           rw e (record_unfit (write_count (eqb optional 1) largest) (after_count (R.levels t depth) size fields) v h read (writes_over (eqb optional 1) largest v (v - 1) next k) base)
 
-      pub counted_opened : {half whole : List ℕ} {d : Cursor} (r : Opened) → v - 1 ≤ largest → Fits w32 largest → half ≡ sets out at (bytes_of 8 (v - 1)) → whole ≡ sets half (at + 8) (bytes_of 8 ones64)
-          → d ≡ took_one c → DeeperOpens depth ((v - 1) * size) d r → HasCount (v - 1) r → CountedOpens values out whole depth at c size largest optional r
+      pub counted_opened : {half whole : List ℕ} {d : Cursor} (r : Result Opening Fault) → v - 1 ≤ largest → Fits w32 largest → half ≡ sets out at (bytes_of 8 (v - 1)) → whole ≡ sets half (at + 8) (bytes_of 8 ones64)
+          → d ≡ took_one c → DeeperOpens depth ((v - 1) * size) d r → IfOk r (λ x. x.count ≡ v - 1) → CountedOpens values out whole depth at c size largest optional (to_open r)
       counted_opened {half} {whole} r k f p q e opens has t base fields ask =
           let went : DeeperOpens depth ((v - 1) * size) (took_one c) r = rw e at opens in
           let left : ℕ → Encoder = λ n. fields n (R.encode_row t (R.levels t (depth - 1))) (R.levels t (depth - 1)) in
           record_opens values out whole 16 at base c (write_count (eqb optional 1) largest) (after_count (R.levels t depth) size fields) (suc (v - 1)) h (sym next ∙ read)
           (count_bytes (v - 1) ones64) (writes_count (eqb optional 1) largest (v - 1) k f) (count_length (v - 1) ones64) (count_stored out at (v - 1) ones64 p q)
-          (λ x. x.count * size) (λ x. left x.count) r
+          (λ x. x.count * size) (λ x. left x.count) (to_open r)
           (opens_same values whole whole 0 at base (took_one c) _ (v - 1) (λ x m. rw m) (λ x m. ap left (sym m)) r has (went t values whole at base (fields (v - 1)) (ask_took ask h)))
 
 -- ---- what follows from it
 
-module _ (values out out' : List ℕ) (depth at : ℕ) (c : Cursor) (size largest optional : ℕ) (r : Opened) (opens : CountedOpens values out out' depth at c size largest optional r) where
+module _ (values out out' : List ℕ) (depth at : ℕ) (c : Cursor) (size largest optional : ℕ) (r : Result Opened Fault) (opens : CountedOpens values out out' depth at c size largest optional r) where
   -- A vector's elements.
   pub counted_vector : VectorOpens values out out' depth at c size largest optional r
   counted_vector t element base sized ask =
@@ -127,6 +128,6 @@ module _ (values out out' : List ℕ) (depth at : ℕ) (c : Cursor) (size larges
       same (suc count) numbers n u = rw sized
 
   -- Where an object that is open stands.
-  pub counted_stands : {base : ℕ} {x : Opening} → Ask values 16 at base c → r ≡ Open x
+  pub counted_stands : {base : ℕ} {x : Opening} → Ask values 16 at base c → r ≡ Ok (Open x)
       → (x.start ≡ c.next) × (x.cursor ≡ opened (x.count * size) (claimed_from x)) × Stands values x.cursor
   counted_stands {base} ask e = let o = rw e at (opens some_table base (λ count rows b. E.nothing) ask) in (o.0, o.1, o.2)

@@ -10,9 +10,8 @@ use Rattle.rules.specs.Bytes.{zeros, padded}
 use Rattle.rules.specs.Encode.{Encoded, wrote, cannot, Encoder}
 use Rattle.rules.proofs.Bytes.{padded_above, padded_multiple}
 use Rattle.write_leaves.specs.declared.cursor.Cursor.{Cursor}
-use Rattle.write_leaves.specs.declared.cursor.Wrote.{Wrote}
+use Rattle.write_leaves.specs.Putting.{Wrote, KeptBefore, answer, Stored, Fit, Put, Puts, Ask}
 use Rattle.write_records.specs.declared.records.Opening.{Opening}
-use Rattle.write_leaves.specs.Putting.{KeptBefore, answer, Stored, Fit, Put, Puts, Ask}
 use Rattle.write_records.specs.Opening.{opened, claimed_from, Claimed, ObjectPut}
 use Rattle.write_records.proofs.Parts.{rest_lent, rest_long, rest_same}
 use Rattle.write_records.proofs.Claims.{object_filled}

@@ -1,5 +1,6 @@
 -- Records, and the objects that they open: the claim, one level down, and what is left then.
 -- Assumes nothing.
+use Rattle.std.specs.Prelude.{Err, Ok, Result, IfOk, OnOk}
 use mathlib.Core.Path.{◌≡◌, refl, ap}
 use mathlib.Core.Bool.{true, false}
 use mathlib.Core.List.{List, [], ◌∷◌}
@@ -17,13 +18,12 @@ use Rattle.rules.specs.Encode as E
 use Rattle.rules.specs.Encode.{Encoded, wrote, cannot, Encoder, WriteRecord, put}
 use Rattle.rules.specs.Writer as R
 use Rattle.write_leaves.specs.declared.cursor.Cursor.{Cursor}
-use Rattle.write_leaves.specs.declared.cursor.Wrote.{Wrote}
+use Rattle.write_leaves.specs.Putting.{Wrote, answer, Stored, Fit, Put, took_one, Stands, Ask}
 use Rattle.write_records.specs.declared.records.Opening.{Opening}
 use Rattle.write_records.specs.declared.records.Opened.{Opened}
-use Rattle.write_records.specs.declared.records.Opened.TheVariants.{Closed, Open, Refused}
-use Rattle.write_leaves.specs.Putting.{answer, Stored, Fit, Put, took_one, Stands, Ask}
-use Rattle.write_records.specs.Opening.{Opens}
-use Rattle.write_records.specs.Promises.{HasCount, Reaches, ClaimOpens, DeeperOpens}
+use Rattle.write_records.specs.declared.records.Opened.TheVariants.{Closed, Open}
+use Rattle.write_records.specs.Opening.{to_open, Opens}
+use Rattle.write_records.specs.Promises.{ClaimOpens, DeeperOpens}
 use Rattle.write_leaves.proofs.Kept.{kept_all, kept_then}
 use Rattle.write_leaves.proofs.InLine.{put_cannot, after_put, record_at}
 use Rattle.write_records.proofs.Levels.{levels_spent, levels_down}
@@ -56,16 +56,16 @@ claim_goes size fields numbers next used h = let k : leb (next + padded size) 65
 
 -- A refusal at the number taken last.
 pub put_last : {values out : List ℕ} {size at base : ℕ} {c : Cursor} (number i index : ℕ) → i ≡ index + 1 → i ≤ length values
-    → Put values out out size at base c (Wrote.Refused (fault number (Index index))) (cannot number (suc (length (drop i values))))
+    → Put values out out size at base c (Err (fault number (Index index))) (cannot number (suc (length (drop i values))))
 put_last {values} number i index e within = put_cannot number (suc (length (drop i values))) index (omega (arith, length-drop i values))
 
 module _ (size : ℕ) (c : Cursor) {whole : ℕ} (w : whole ≡ padded size) where
-  pub claim_over : {f : Fault} → 0 < c.index → 65536 - c.next < whole → f ≡ fault message_too_long (Index (c.index - 1)) → ClaimOpens size c (Refused f)
+  pub claim_over : {f : Fault} → 0 < c.index → 65536 - c.next < whole → f ≡ fault message_too_long (Index (c.index - 1)) → ClaimOpens size c (Err f)
   claim_over i h e values out at base fields ask =
       rw (e, claim_refused size fields (drop c.index values) c.next c.handles (omega arith)) (put_last message_too_long c.index (c.index - 1) (omega arith) ask.left)
 
   pub claim_opened : (count : ℕ) → c.next ≤ 65536 → whole ≤ 65536 - c.next
-      → ClaimOpens size c (Open (record { count = count; start = c.next; cursor = record { next = c.next + whole; handles = c.handles; index = c.index } }))
+      → ClaimOpens size c (Ok (record { count = count; start = c.next; cursor = record { next = c.next + whole; handles = c.handles; index = c.index } }))
   claim_opened count n h values out at base fields ask =
       let ends : c.next + padded size ≤ 65536 = omega arith in (
         refl,
@@ -77,17 +77,16 @@ module _ (size : ℕ) (c : Cursor) {whole : ℕ} (w : whole ≡ padded size) whe
 -- ---- one level down, and a claim there
 
 module _ (depth size : ℕ) (c : Cursor) where
-  pub deeper_spent : {f : Fault} → depth ≡ 0 → 0 < c.index → f ≡ fault too_deep (Index (c.index - 1)) → DeeperOpens depth size c (Refused f)
+  pub deeper_spent : {f : Fault} → depth ≡ 0 → 0 < c.index → f ≡ fault too_deep (Index (c.index - 1)) → DeeperOpens depth size c (Err f)
   deeper_spent h i e t values out at base fields ask = rw (e, levels_spent t depth h) (put_last too_deep c.index (c.index - 1) (omega arith) ask.left)
 
-  pub deeper_down : (r : Opened) → (depth ≡ 0 → ⊥) → ClaimOpens size c r → DeeperOpens depth size c r
+  pub deeper_down : (r : Result Opening Fault) → (depth ≡ 0 → ⊥) → ClaimOpens size c r → DeeperOpens depth size c r
   deeper_down r n p t values out at base fields ask =
       rw (levels_down t depth n) (p values out at base (fields (R.encode_row t (R.levels t (depth - 1))) (R.levels t (depth - 1))) ask)
 
-pub reaches_down : (depth : ℕ) (r : Opened) → (depth ≡ 0 → ⊥) → Reaches depth r
-reaches_down depth (Closed d) n = tt
-reaches_down depth (Refused f) n = tt
-reaches_down depth (Open x) n = omega arith
+pub reaches_down : (depth : ℕ) (r : Result Opening Fault) → (depth ≡ 0 → ⊥) → OnOk r (0 < depth)
+reaches_down depth (Ok x) n = omega arith
+reaches_down depth (Err f) n = tt
 
 -- ---- a record, and the object that it leads to
 
@@ -105,15 +104,15 @@ pub took_free : (values : List ℕ) (c d : Cursor) → Stands values c → d ≡
 took_free values c d s e = rw e s.free
 
 module _ (values out out' : List ℕ) (size at base : ℕ) (c : Cursor) where
-  opens_after : (bytes : List ℕ) (whole : Encoded) (sizes : Opening → ℕ) (fields : Opening → Encoder) (r : Opened) → length bytes ≡ size → out' ≡ sets out at bytes
+  opens_after : (bytes : List ℕ) (whole : Encoded) (sizes : Opening → ℕ) (fields : Opening → Encoder) (r : Result Opened Fault) → length bytes ≡ size → out' ≡ sets out at bytes
       → Opens values out' out' 0 at base (took_one c) whole sizes fields r → Opens values out out' size at base c (E.after bytes [] whole) sizes fields r
-  opens_after bytes whole sizes fields (Closed d) l s p = after_put bytes l s p (omega arith)
-  opens_after bytes whole sizes fields (Refused f) l s p = after_put bytes l s p (omega arith)
-  opens_after bytes whole sizes fields (Open x) l s p = (p.0, p.1, p.2, λ out'' r q. after_put bytes l s (p.3 out'' r q) (omega arith))
+  opens_after bytes whole sizes fields (Ok (Closed d)) l s p = after_put bytes l s p (omega arith)
+  opens_after bytes whole sizes fields (Err f) l s p = after_put bytes l s p (omega arith)
+  opens_after bytes whole sizes fields (Ok (Open x)) l s p = (p.0, p.1, p.2, λ out'' r q. after_put bytes l s (p.3 out'' r q) (omega arith))
 
   pub record_opens : (write : ℕ → WriteRecord) (continue : ℕ → Encoder) (v : ℕ) → c.index < length values → v ≡ get_or values c.index 0
       → (bytes : List ℕ) → write v ≡ put bytes → length bytes ≡ size → out' ≡ sets out at bytes
-      → (sizes : Opening → ℕ) (fields : Opening → Encoder) (r : Opened)
+      → (sizes : Opening → ℕ) (fields : Opening → Encoder) (r : Result Opened Fault)
       → Opens values out' out' 0 at base (took_one c) (continue v (drop (c.index + 1) values) c.next c.handles) sizes fields r
       → Opens values out out' size at base c (E.record_then write continue (drop c.index values) c.next c.handles) sizes fields r
   record_opens write continue v h read bytes w l s sizes fields r p =
@@ -122,7 +121,6 @@ module _ (values out out' : List ℕ) (size at base : ℕ) (c : Cursor) where
 -- With what is left said by the opening's own count.
 pub opens_same : (values out out' : List ℕ) (inline at base : ℕ) (c : Cursor) (whole : Encoded) (count : ℕ) {sizes sizes' : Opening → ℕ} {fields fields' : Opening → Encoder}
     → ((x : Opening) → x.count ≡ count → sizes x ≡ sizes' x) → ((x : Opening) → x.count ≡ count → fields x ≡ fields' x)
-    → (r : Opened) → HasCount count r → Opens values out out' inline at base c whole sizes fields r → Opens values out out' inline at base c whole sizes' fields' r
-opens_same values out out' inline at base c whole count f k (Closed d) h p = p
-opens_same values out out' inline at base c whole count f k (Refused e) h p = p
-opens_same values out out' inline at base c whole count f k (Open x) h p = rw (f x h, k x h) at p
+    → (r : Result Opening Fault) → IfOk r (λ x. x.count ≡ count) → Opens values out out' inline at base c whole sizes fields (to_open r) → Opens values out out' inline at base c whole sizes' fields' (to_open r)
+opens_same values out out' inline at base c whole count f k (Err e) h p = p
+opens_same values out out' inline at base c whole count f k (Ok x) h p = rw (f x h, k x h) at p

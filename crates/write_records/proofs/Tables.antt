@@ -1,5 +1,6 @@
 -- A table's highest ordinal, by the tests that the code makes, and what it leads to.
 -- Assumes nothing.
+use Rattle.std.specs.Prelude.{Err, Result, IfOk}
 use mathlib.Core.Path.{◌≡◌, refl, sym, ap}
 use mathlib.Core.Bool.{true}
 use mathlib.Core.List.{List}
@@ -26,10 +27,9 @@ use Rattle.rules.proofs.Bytes.{padded_multiple}
 use Rattle.write_leaves.specs.declared.cursor.Cursor.{Cursor}
 use Rattle.write_records.specs.declared.records.Opening.{Opening}
 use Rattle.write_records.specs.declared.records.Opened.{Opened}
-use Rattle.write_records.specs.declared.records.Opened.TheVariants.{Refused}
 use Rattle.write_leaves.specs.Putting.{took_one, Stands}
-use Rattle.write_records.specs.Opening.{Opens}
-use Rattle.write_records.specs.Promises.{HasCount, ClaimOpens, TableOpens}
+use Rattle.write_records.specs.Opening.{to_open, Opens}
+use Rattle.write_records.specs.Promises.{ClaimOpens, TableOpens}
 use Rattle.write_leaves.proofs.InLine.{record_ended}
 use Rattle.write_records.proofs.Levels.{levels_spent, levels_down}
 use Rattle.write_records.proofs.Counts.{count_stored, count_length}
@@ -52,12 +52,12 @@ module _ (t : TypeTable) (depth : ℕ) (content : ℕ → Content) (v : ℕ) (nu
   after_down edition n = rw (levels_down t depth n, envelope_size_lem edition, content_written edition)
 
 module _ (values out : List ℕ) (depth at : ℕ) (c : Cursor) (s : Stands values c) where
-  pub table_ended : {f : Fault} → length values ≤ c.index → f ≡ fault not_a_value (Index c.index) → TableOpens values out out depth at c (Refused f)
+  pub table_ended : {f : Fault} → length values ≤ c.index → f ≡ fault not_a_value (Index c.index) → TableOpens values out out depth at c (Err f)
   table_ended h e t content base edition ask =
       rw e (record_ended write_table (R.after_table t (R.levels t depth) content) s.left h base)
 
   module _ {v : ℕ} (h : c.index < length values) (read : v ≡ get_or values c.index 0) (f : Fits w64 v) {half whole : List ℕ} (p : half ≡ sets out at (bytes_of 8 v)) (q : whole ≡ sets half (at + 8) (bytes_of 8 ones64)) where
-    table_leads : (t : TypeTable) (content : ℕ → Content) (base : ℕ) (sizes : Opening → ℕ) (fields : Opening → Encoder) (r : Opened)
+    table_leads : (t : TypeTable) (content : ℕ → Content) (base : ℕ) (sizes : Opening → ℕ) (fields : Opening → Encoder) (r : Result Opened Fault)
         → Opens values whole whole 0 at base (took_one c)
         (R.after_table t (R.levels t depth) content v (drop (c.index + 1) values) c.next c.handles) sizes fields r
         → Opens values out whole 16 at base c
@@ -65,15 +65,15 @@ module _ (values out : List ℕ) (depth at : ℕ) (c : Cursor) (s : Stands value
     table_leads t content base sizes fields r opens =
         record_opens values out whole 16 at base c write_table (R.after_table t (R.levels t depth) content) v h read (count_bytes v ones64) (writes_table v f) (count_length v ones64) (count_stored out at v ones64 p q) sizes fields r opens
 
-    pub table_spent : {g : Fault} → depth ≡ 0 → g ≡ fault too_deep (Index c.index) → TableOpens values out whole depth at c (Refused g)
+    pub table_spent : {g : Fault} → depth ≡ 0 → g ≡ fault too_deep (Index c.index) → TableOpens values out whole depth at c (Err g)
     table_spent {g} z e t content base edition ask =
-        table_leads t content base (λ x. 0) (λ x. E.nothing) (Refused g)
+        table_leads t content base (λ x. 0) (λ x. E.nothing) (Err g)
         (rw (e, after_spent t depth content v (drop (c.index + 1) values) c.next c.handles z) (put_last too_deep (c.index + 1) c.index refl (omega arith)))
 
     module _ (down : depth ≡ 0 → ⊥) where
-      pub table_over : {g : Fault} → 8192 < v → g ≡ fault message_too_long (Index c.index) → TableOpens values out whole depth at c (Refused g)
+      pub table_over : {g : Fault} → 8192 < v → g ≡ fault message_too_long (Index c.index) → TableOpens values out whole depth at c (Err g)
       table_over {g} k e t content base edition ask =
-          table_leads t content base (λ x. 0) (λ x. E.nothing) (Refused g)
+          table_leads t content base (λ x. 0) (λ x. E.nothing) (Err g)
           (rw (
             e,
             after_down t depth content v (drop (c.index + 1) values) c.next c.handles edition down,
@@ -81,10 +81,10 @@ module _ (values out : List ℕ) (depth at : ℕ) (c : Cursor) (s : Stands value
           )
           (put_last message_too_long (c.index + 1) c.index refl (omega arith)))
 
-      pub table_opened : {d : Cursor} (r : Opened) → d ≡ took_one c → ClaimOpens (v * 8) d r → HasCount v r → TableOpens values out whole depth at c r
+      pub table_opened : {d : Cursor} (r : Result Opening Fault) → d ≡ took_one c → ClaimOpens (v * 8) d r → IfOk r (λ x. x.count ≡ v) → TableOpens values out whole depth at c (to_open r)
       table_opened r e opens has t content base edition ask =
           let went : ClaimOpens (v * 8) (took_one c) r = rw e at opens in
-          table_leads t content base (λ x. x.count * 8) (λ x. envelopes t (R.levels t (depth - 1)) content x.count) r
+          table_leads t content base (λ x. x.count * 8) (λ x. envelopes t (R.levels t (depth - 1)) content x.count) (to_open r)
           (rw (after_down t depth content v (drop (c.index + 1) values) c.next c.handles edition down)
           (opens_same values whole whole 0 at base (took_one c) _ v (λ x m. rw m) (λ x m. ap (envelopes t (R.levels t (depth - 1)) content) (sym m)) r has
           (went values whole at base (envelopes t (R.levels t (depth - 1)) content v) (ask_took ask h))))

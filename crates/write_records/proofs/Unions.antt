@@ -1,6 +1,7 @@
 -- A union's number, and what it leads to.
 -- Assumes nothing.
-use Rattle.std.specs.Prelude.{if◌then◌else◌}
+use Rattle.std.specs.Prelude.{if◌then◌else◌, Err, Ok, Option, Some, None}
+use Rattle.std.specs.Option.{is_some}
 use mathlib.Core.Path.{◌≡◌, refl, sym, ap, ◌∙◌}
 use mathlib.Core.Bool.{Bool, true, false, ◌||◌}
 use mathlib.Core.List.{List, ◌++◌}
@@ -22,12 +23,11 @@ use Rattle.rules.specs.Encode.{Encoded, wrote, cannot, Encoder, WriteRecord, put
 use Rattle.rules.specs.Records.{is_known, unless, write_if, ordinal_pattern, write_number}
 use Rattle.rules.specs.Envelope.{encode_content, write_content_of_eight_bytes}
 use Rattle.rules.specs.Writer as R
-use Rattle.ordinals.specs.declared.Ordinal.{Ordinal}
 use Rattle.ordinals.specs.Ordinals.{ordinal_is, ContentIs}
 use Rattle.rules.proofs.Edition.{envelope_size_lem, content_written}
 use Rattle.words.proofs.Stores.{sets_append, length_bytes_of}
 use Rattle.write_leaves.specs.declared.cursor.Cursor.{Cursor}
-use Rattle.write_records.specs.declared.envelopes.Member.TheVariants.{None, Some, Bad}
+use Rattle.write_records.specs.declared.envelopes.Member.TheVariants.{Absent, Present}
 use Rattle.write_leaves.specs.Putting.{Puts, took_one, Stands}
 use Rattle.write_records.specs.Promises.{UnionOpens}
 use Rattle.write_leaves.proofs.InLine.{put_in_line, record_at, record_ended, record_unfit, took_stands}
@@ -38,25 +38,25 @@ abbrev union_record : (content : ℕ → Content) (form : ℕ) → ℕ → Write
 union_record content form = write_number 8 (ordinal_pattern content (eqb (form % 2) 1) (eqb (form / 2) 1))
 
 module _ (members values out : List ℕ) (at : ℕ) (c : Cursor) (first count form : ℕ) (s : Stands values c) where
-  pub union_ended : {f : Fault} → length values ≤ c.index → f ≡ fault not_a_value (Index c.index) → UnionOpens members values out out at c first count form (Bad f)
+  pub union_ended : {f : Fault} → length values ≤ c.index → f ≡ fault not_a_value (Index c.index) → UnionOpens members values out out at c first count form (Err f)
   union_ended h e t depth base edition same ask =
       rw e (record_ended (union_record (content_of t first count) form) (R.after_union t (R.levels t depth) (content_of t first count)) s.left h base)
 
   module _ {v : ℕ} (h : c.index < length values) (read : v ≡ get_or values c.index 0) where
     unfit_bad : {f : Fault} → ((t : TypeTable) → t.members ≡ members → union_record (content_of t first count) form v ≡ unfit) → f ≡ fault not_a_value (Index c.index)
-        → UnionOpens members values out out at c first count form (Bad f)
+        → UnionOpens members values out out at c first count form (Err f)
     unfit_bad w e t depth base edition same ask =
         rw e (record_unfit (union_record (content_of t first count) form) (R.after_union t (R.levels t depth) (content_of t first count)) v h read (w t same) base)
 
     -- ---- without a member
 
     module _ (z : v ≡ 0) where
-      pub union_required : {f : Fault} → form % 2 ≡ 0 → f ≡ fault not_a_value (Index c.index) → UnionOpens members values out out at c first count form (Bad f)
+      pub union_required : {f : Fault} → form % 2 ≡ 0 → f ≡ fault not_a_value (Index c.index) → UnionOpens members values out out at c first count form (Err f)
       unfolding write_number
       union_required o e = unfit_bad (λ t same. rw (z, ne_eqb (form % 2) 1 (λ q. omega arith))) e
 
       pub union_absent : {half whole : List ℕ} {d : Cursor} → (form % 2 ≡ 0 → ⊥) → half ≡ sets out at (bytes_of 8 0) → whole ≡ sets half (at + 8) (bytes_of 8 0) → d ≡ took_one c
-          → UnionOpens members values out whole at c first count form (None d)
+          → UnionOpens members values out whole at c first count form (Ok (Absent d))
       unfolding write_number zeros bytes_of E.inline_bytes
       union_absent {half} {whole} o p q e t depth base edition same ask =
           let number : 0 ≡ get_or values c.index 0 = sym z ∙ read in
@@ -67,8 +67,12 @@ module _ (members values out : List ℕ) (at : ℕ) (c : Cursor) (first count fo
 
     -- ---- with a member
 
-    module _ (fits : Fits w64 v) (n : v ≡ 0 → ⊥) (small : form ≤ 3) (what : Ordinal) (known : Bool) (k : known ≡ is_known (ordinal_is what))
+    module _ (fits : Fits w64 v) (n : v ≡ 0 → ⊥) (small : form ≤ 3) (what : Option ℕ) (known : Bool) (k : known ≡ is_some what)
         (is : ContentIs members first count v what) where
+      known_some : (what : Option ℕ) → is_some what ≡ is_known (ordinal_is what)
+      known_some (Some row) = refl
+      known_some None = refl
+
       -- A flexible union takes any ordinal.
       accepts : (form : ℕ) (known : Bool) → form ≤ 3 → (if eqb (form / 2) 1 then true else known) ≡ (leb 2 form || known)
       accepts form known h = go (leb 2 form) refl
@@ -84,9 +88,9 @@ module _ (members values out : List ℕ) (at : ℕ) (c : Cursor) (first count fo
       judged content optional flexible (suc v) z l = let p : ltb (suc v) 18446744073709551616 ≡ true = lt-ltb (suc v) 18446744073709551616 l in rw p
 
       written : (t : TypeTable) → t.members ≡ members → union_record (content_of t first count) form v ≡ write_if (unless ordinal_unknown (leb 2 form || known)) (put (bytes_of 8 v))
-      written t same = judged (content_of t first count) (eqb (form % 2) 1) (eqb (form / 2) 1) v n fits.fits ∙ rw (← (is t same), ← k, accepts form known small)
+      written t same = judged (content_of t first count) (eqb (form % 2) 1) (eqb (form / 2) 1) v n fits.fits ∙ rw (← (is t same), ← (known_some what), ← k, accepts form known small)
 
-      pub union_unknown : {f : Fault} → leb 2 form || known ≡ false → f ≡ fault not_a_value (Index c.index) → UnionOpens members values out out at c first count form (Bad f)
+      pub union_unknown : {f : Fault} → leb 2 form || known ≡ false → f ≡ fault not_a_value (Index c.index) → UnionOpens members values out out at c first count form (Err f)
       union_unknown a e = unfit_bad (λ t same. written t same ∙ rw a) e
 
       -- The envelope follows the ordinal.
@@ -95,7 +99,7 @@ module _ (members values out : List ℕ) (at : ℕ) (c : Cursor) (first count fo
       after_ordinal content t below (suc v) z = refl
 
       pub union_member : {out' : List ℕ} {d : Cursor} → leb 2 form || known ≡ true → out' ≡ sets out at (bytes_of 8 v) → d ≡ took_one c
-          → UnionOpens members values out out' at c first count form (Some what d)
+          → UnionOpens members values out out' at c first count form (Ok (Present what d))
       union_member {out'} {d} a stored e t depth base edition same ask =
           let below = R.levels t depth in (
             e,

@@ -1,6 +1,6 @@
 -- Laws of unknown content: numbers that are judged and not stored, then the envelope; a law for each way that a function ends.
 -- Assumes nothing.
-use Rattle.std.specs.Prelude.{if◌then◌else◌}
+use Rattle.std.specs.Prelude.{if◌then◌else◌, Err, Ok}
 use mathlib.Core.Path.{◌≡◌, refl, ap, ◌∙◌}
 use mathlib.Core.Bool.{Bool, true, false, ◌&&◌}
 use mathlib.Core.List.{List, []}
@@ -21,14 +21,12 @@ use Rattle.rules.specs.Encode as E
 use Rattle.rules.specs.Encode.{Encoded, wrote, cannot, Encoder}
 use Rattle.rules.specs.Envelope.{payload_in_line, claimable, envelope_bytes, handle_number_fits, word_fits, write_words, byte_number_fits, write_unknown_in_line, write_unknown_out_of_line, write_unknown}
 use Rattle.write_leaves.specs.declared.cursor.Cursor.{Cursor}
-use Rattle.write_leaves.specs.declared.cursor.Wrote.{Wrote}
-use Rattle.write_leaves.specs.declared.cursor.Wrote.TheVariants.{On, Refused}
-use Rattle.write_leaves.specs.Putting.{answer, Stored, Fit, Put, Puts, PutsInLine, took_one, Stands, HandlesTaken, Ask}
+use Rattle.write_leaves.specs.Putting.{Wrote, answer, Stored, Fit, Put, Puts, PutsInLine, took_one, Stands, HandlesTaken, Ask}
 use Rattle.write_leaves.specs.InLine.{numbers_as}
 use Rattle.write_records.specs.declared.records.Opening.{Opening}
 use Rattle.write_records.specs.Opening.{claimed_from, Claimed}
 use Rattle.write_records.specs.Promises.{NumbersPut, UnknownPuts}
-use Rattle.write_leaves.proofs.InLine.{put_in_line, put_cannot, after_put, took_stands, handles_taken, handles_over}
+use Rattle.write_leaves.proofs.InLine.{put_in_line, put_cannot, after_put, took_stands}
 use Rattle.write_leaves.proofs.Results.{after_none}
 use Rattle.write_leaves.proofs.Together.{put_halt}
 use Rattle.write_records.proofs.Openings.{padded_is}
@@ -80,17 +78,17 @@ record Held (values : List ℕ) (count : ℕ) (c d : Cursor) : Type 0 where
   pub moved : d ≡ holding count c
   pub counted : E.take_handles count (drop c.index values) c.next c.handles ≡ wrote [] [] c.next (c.handles + count) (drop c.index values)
 
-handles_held : {values : List ℕ} (count : ℕ) (c d : Cursor) → Stands values c → HandlesTaken count c (On d) → Held values count c d
+handles_held : {values : List ℕ} (count : ℕ) (c d : Cursor) → Stands values c → HandlesTaken count c (Ok d) → Held values count c d
 unfolding E.take_handles
 handles_held {values} count c d s p = go (leb (c.handles + count) 64) refl
   where
-    q : Put values [] [] 0 0 0 c (On d) (E.take_handles count (drop c.index values) c.next c.handles)
+    q : Put values [] [] 0 0 0 c (Ok d) (E.take_handles count (drop c.index values) c.next c.handles)
     q = p values [] 0 0 s
 
     go : (b : Bool) → leb (c.handles + count) 64 ≡ b → Held values count c d
     go true t =
         let q' = rw t at q in
-        let says : On d ≡ On (record { next = c.next; handles = c.handles + count; index = length values - length (drop c.index values) }) = q'.says in
+        let says : Ok d ≡ Ok (record { next = c.next; handles = c.handles + count; index = length values - length (drop c.index values) }) = q'.says in
         let same : d ≡ record { next = c.next; handles = c.handles + count; index = length values - length (drop c.index values) } = cc in
         let back : length values - length (drop c.index values) ≡ c.index = omega (arith, s.left, length-drop c.index values) in
         record {
@@ -100,7 +98,7 @@ handles_held {values} count c d s p = go (leb (c.handles + count) 64) refl
         }
     go false t =
         let q' = rw t at q in
-        let says : On d ≡ Refused (fault 4 (Index (length values - suc (length (drop c.index values))))) = q'.says in
+        let says : Ok d ≡ Err (fault 4 (Index (length values - suc (length (drop c.index values))))) = q'.says in
         absurd (let w : ◌≡◌ {A = ℕ} 0 1 = cc in omega arith)
 
 -- ---- the handle number
@@ -137,13 +135,13 @@ unfolding bytes_of
 envelope_whole bytes handles flags = refl
 
 module _ (values out : List ℕ) (at : ℕ) (c : Cursor) (s : Stands values c) where
-  pub in_line_ended : {r : Wrote} → length values ≤ c.index → r ≡ Refused (fault not_a_value (Index c.index)) → PutsInLine values out out 8 at c r write_unknown_in_line
+  pub in_line_ended : {r : Wrote} → length values ≤ c.index → r ≡ Err (fault not_a_value (Index c.index)) → PutsInLine values out out 8 at c r write_unknown_in_line
   unfolding write_unknown_in_line
   in_line_ended h e base =
       rw (e, number_short (handle_number_fits payload_in_line) handles_next values c.index c.next c.handles h) (put_cannot not_a_value 0 c.index (omega (arith, s.left)))
 
   module _ {v : ℕ} {test : Bool} (h : c.index < length values) (read : v ≡ get_or values c.index 0) (judged : test ≡ claimable payload_in_line v) where
-    pub in_line_many : {r : Wrote} → test ≡ false → r ≡ Refused (fault not_a_value (Index c.index)) → PutsInLine values out out 8 at c r write_unknown_in_line
+    pub in_line_many : {r : Wrote} → test ≡ false → r ≡ Err (fault not_a_value (Index c.index)) → PutsInLine values out out 8 at c r write_unknown_in_line
     unfolding write_unknown_in_line
     in_line_many k e base =
         let t : handle_number_fits payload_in_line v ≡ false = many payload_in_line v judged k in
@@ -157,14 +155,14 @@ module _ (values out : List ℕ) (at : ℕ) (c : Cursor) (s : Stands values c) w
           let t : handle_number_fits payload_in_line v ≡ true = few payload_in_line v judged k (omega arith) in
           rw (number_at (handle_number_fits payload_in_line) handles_next values c.index c.next c.handles h, ← read, t)
 
-      pub in_line_handles_over : {f : Fault} {y : Wrote} → HandlesTaken v d y → y ≡ Refused f → PutsInLine values out out 8 at c (Refused f) write_unknown_in_line
+      pub in_line_handles_over : {f : Fault} {y : Wrote} → HandlesTaken v d y → y ≡ Err f → PutsInLine values out out 8 at c (Err f) write_unknown_in_line
       in_line_handles_over {f} p x base =
-          let q : HandlesTaken v (took_one c) (Refused f) = rw (e, x) at p in
+          let q : HandlesTaken v (took_one c) (Err f) = rw (e, x) at p in
           rw goes (put_later (put_halt 8 (word_next v) (q values out at base (took_stands s h))))
 
-      module _ {f : Cursor} {y : Wrote} (p : HandlesTaken v d y) (x : y ≡ On f) where
+      module _ {f : Cursor} {y : Wrote} (p : HandlesTaken v d y) (x : y ≡ Ok f) where
         held : Held values v (took_one c) f
-        held = let q : HandlesTaken v (took_one c) (On f) = rw (e, x) at p in handles_held v (took_one c) f (took_stands s h) q
+        held = let q : HandlesTaken v (took_one c) (Ok f) = rw (e, x) at p in handles_held v (took_one c) f (took_stands s h) q
 
         on : write_unknown_in_line (drop c.index values) c.next c.handles ≡ word_next v (drop f.index values) f.next f.handles
         on = goes ∙ rw (held.counted, held.moved) (after_none (word_next v (drop (c.index + 1) values) c.next (c.handles + v)))
@@ -172,20 +170,20 @@ module _ (values out : List ℕ) (at : ℕ) (c : Cursor) (s : Stands values c) w
         stands : Stands values f
         stands = rw held.moved (record { free = s.free; held = held.few; left = omega arith })
 
-        pub in_line_wordless : {r : Wrote} → length values ≤ f.index → r ≡ Refused (fault not_a_value (Index f.index)) → PutsInLine values out out 8 at c r write_unknown_in_line
+        pub in_line_wordless : {r : Wrote} → length values ≤ f.index → r ≡ Err (fault not_a_value (Index f.index)) → PutsInLine values out out 8 at c r write_unknown_in_line
         in_line_wordless l a base =
             rw (a, on, number_short word_fits (λ word. E.inline_bytes (envelope_bytes word v 1)) values f.index f.next f.handles l)
             (put_cannot not_a_value 0 f.index (omega (arith, stands.left)))
 
         module _ {w : ℕ} (l : f.index < length values) (reads : w ≡ get_or values f.index 0) where
-          pub in_line_large : {r : Wrote} → 4294967295 < w → r ≡ Refused (fault not_a_value (Index f.index)) → PutsInLine values out out 8 at c r write_unknown_in_line
+          pub in_line_large : {r : Wrote} → 4294967295 < w → r ≡ Err (fault not_a_value (Index f.index)) → PutsInLine values out out 8 at c r write_unknown_in_line
           in_line_large m a base =
               let t : ltb w 4294967296 ≡ false = le-ltb w 4294967296 (omega arith) in
               rw (a, on, number_at word_fits (λ word. E.inline_bytes (envelope_bytes word v 1)) values f.index f.next f.handles l, ← reads, t)
               (put_cannot not_a_value (suc (length (drop (f.index + 1) values))) f.index (omega (arith, length-drop (f.index + 1) values)))
 
           pub in_line_put : {out' : List ℕ} {g : Cursor} → w ≤ 4294967295 → out' ≡ sets out at (envelope_bytes w v 1) → g ≡ took_one f
-              → PutsInLine values out out' 8 at c (On g) write_unknown_in_line
+              → PutsInLine values out out' 8 at c (Ok g) write_unknown_in_line
           unfolding E.inline_bytes
           in_line_put m stored a base =
               let t : ltb w 4294967296 ≡ true = lt-ltb w 4294967296 (omega arith) in
@@ -205,14 +203,6 @@ module _ (values : List ℕ) (base at : ℕ) (c : Cursor) (ask : Ask values 8 at
 abbrev words_from_lem : (c : Cursor) (bytes handles index : ℕ) → Opening
 words_from_lem c bytes handles index = record { count = bytes / 8; start = c.next; cursor = record { next = c.next + bytes; handles = handles; index = index } }
 
-pub words_claimed : (values : List ℕ) (base bytes at : ℕ) (c : Cursor) (handles : ℕ) → Ask values 8 at base c → bytes % 8 ≡ 0 → bytes ≤ 65536 - c.next → c.index < length values → handles ≤ 64
-    → Claimed values (bytes / 8 * 8) base (words_from_lem c bytes handles (c.index + 1))
-words_claimed values base bytes at c handles ask eights fits h few = record {
-  within = omega (arith, ask.inside);
-  advanced = let full : bytes ≡ padded (bytes / 8 * 8) = omega (arith, padded_is (bytes / 8 * 8), eights) in ap (λ (n : ℕ). record { next = c.next + n; handles = handles; index = c.index + 1 }) full;
-  stands = record { free = omega (arith, ask.free, fits); held = few; left = omega (arith, h) };
-}
-
 module _ (values out : List ℕ) (base bytes at : ℕ) (c : Cursor) (ask : Ask values 8 at base c) where
   ask_stands : Stands values c
   ask_stands = record { free = ask.free; held = ask.held; left = ask.left }
@@ -224,7 +214,7 @@ module _ (values out : List ℕ) (base bytes at : ℕ) (c : Cursor) (ask : Ask v
     abbrev words_next : (handles : ℕ) → Encoder
     words_next handles = E.sequence (E.take_handles handles) (write_words bytes handles)
 
-    pub out_over : {r : Wrote} → 65536 - c.next < bytes → r ≡ Refused (fault message_too_long (Index (c.index - 1))) → Puts values out out 8 at base c r (write_unknown_out_of_line bytes)
+    pub out_over : {r : Wrote} → 65536 - c.next < bytes → r ≡ Err (fault message_too_long (Index (c.index - 1))) → Puts values out out 8 at base c r (write_unknown_out_of_line bytes)
     unfolding write_unknown_out_of_line
     out_over m e =
         let t : leb (c.next + padded bytes) 65536 ≡ false = lt-leb (c.next + padded bytes) 65536 (omega (arith, full, ask.free)) in
@@ -235,12 +225,12 @@ module _ (values out : List ℕ) (base bytes at : ℕ) (c : Cursor) (ask : Ask v
       unfolding write_unknown_out_of_line
       space = let t : leb (c.next + padded bytes) 65536 ≡ true = le-leb (c.next + padded bytes) 65536 (omega (arith, full, ask.free)) in rw t
 
-      pub out_ended : {r : Wrote} → length values ≤ c.index → r ≡ Refused (fault not_a_value (Index c.index)) → Puts values out out 8 at base c r (write_unknown_out_of_line bytes)
+      pub out_ended : {r : Wrote} → length values ≤ c.index → r ≡ Err (fault not_a_value (Index c.index)) → Puts values out out 8 at base c r (write_unknown_out_of_line bytes)
       out_ended h e =
           rw (e, space, number_short (handle_number_fits bytes) words_next values c.index c.next c.handles h) (put_cannot not_a_value 0 c.index (omega (arith, ask.left)))
 
       module _ {v : ℕ} {test : Bool} (h : c.index < length values) (read : v ≡ get_or values c.index 0) (judged : test ≡ claimable bytes v) where
-        pub out_many : {r : Wrote} → test ≡ false → r ≡ Refused (fault not_a_value (Index c.index)) → Puts values out out 8 at base c r (write_unknown_out_of_line bytes)
+        pub out_many : {r : Wrote} → test ≡ false → r ≡ Err (fault not_a_value (Index c.index)) → Puts values out out 8 at base c r (write_unknown_out_of_line bytes)
         out_many k e =
             let t : handle_number_fits bytes v ≡ false = many bytes v judged k in
             rw (e, space, number_at (handle_number_fits bytes) words_next values c.index c.next c.handles h, ← read, t)
@@ -254,19 +244,30 @@ module _ (values out : List ℕ) (base bytes at : ℕ) (c : Cursor) (ask : Ask v
               let t : handle_number_fits bytes v ≡ true = few bytes v judged k (omega arith) in
               space ∙ rw (number_at (handle_number_fits bytes) words_next values c.index c.next c.handles h, ← read, t)
 
-          pub out_handles_over : {f : Fault} {y : Wrote} → HandlesTaken v d y → y ≡ Refused f → Puts values out out 8 at base c (Refused f) (write_unknown_out_of_line bytes)
+          pub out_handles_over : {f : Fault} {y : Wrote} → HandlesTaken v d y → y ≡ Err f → Puts values out out 8 at base c (Err f) (write_unknown_out_of_line bytes)
           out_handles_over {f} p x =
-              let q : HandlesTaken v (took_one c) (Refused f) = rw (e, x) at p in
+              let q : HandlesTaken v (took_one c) (Err f) = rw (e, x) at p in
               rw out_goes (put_later (put_halt 8 (write_words bytes v) (q values out at base (took_stands ask_stands h))))
 
-          module _ {f : Cursor} {y : Wrote} (p : HandlesTaken v d y) (x : y ≡ On f) where
+          module _ {f : Cursor} {y : Wrote} (p : HandlesTaken v d y) (x : y ≡ Ok f) where
             out_held : Held values v (took_one c) f
-            out_held = let q : HandlesTaken v (took_one c) (On f) = rw (e, x) at p in handles_held v (took_one c) f (took_stands ask_stands h) q
+            out_held = let q : HandlesTaken v (took_one c) (Ok f) = rw (e, x) at p in handles_held v (took_one c) f (took_stands ask_stands h) q
 
             out_words : write_unknown_out_of_line bytes (drop c.index values) c.next c.handles
                 ≡ E.after (envelope_bytes bytes v 0) [] (E.as_object bytes (numbers_as 8 (bytes / 8) (drop f.index values) (c.next + padded bytes) f.handles))
             unfolding write_words numbers_as
             out_words = out_goes ∙ rw (out_held.counted, out_held.moved) (after_none (write_words bytes v (drop (c.index + 1) values) c.next (c.handles + v)))
+
+            pub words_claimed : Claimed values (bytes / 8 * 8) base (words_from_lem c bytes f.handles f.index)
+            words_claimed =
+                let full : bytes ≡ padded (bytes / 8 * 8) = omega (arith, padded_is (bytes / 8 * 8), eights) in
+                let few : f.handles ≤ 64 = rw out_held.moved out_held.few in
+                let left : f.index ≤ length values = rw out_held.moved (omega arith) in
+                record {
+                  within = omega (arith, ask.inside);
+                  advanced = ap (λ (n : ℕ). record { next = c.next + n; handles = f.handles; index = f.index }) full;
+                  stands = record { free = omega (arith, ask.free); held = few; left = left };
+                }
 
             pub out_put : {out₁ out' : List ℕ} {r : Wrote} → out₁ ≡ sets out at (envelope_bytes bytes v 0) → NumbersPut values out₁ out' base 8 (words_from_lem c bytes f.handles f.index) r
                 → Puts values out out' 8 at base c r (write_unknown_out_of_line bytes)
@@ -278,16 +279,6 @@ module _ (values out : List ℕ) (base bytes at : ℕ) (c : Cursor) (ask : Ask v
                 rw out_words
                 (after_put (envelope_bytes bytes v 0) (envelope_whole bytes v 0) stored
                 (put_from (claimed_from (words_from_lem c bytes f.handles f.index)) refl (omega arith) (omega arith) (rw eight at q)) before)
-
-        module _ (k : test ≡ true) where
-          pub plain_over : {r : Wrote} → 64 < c.handles + v → r ≡ Refused (fault 4 (Index c.index)) → Puts values out out 8 at base c r (write_unknown_out_of_line bytes)
-          plain_over l e =
-              let i : c.index ≡ c.index + 1 - 1 = omega arith in
-              rw e (out_handles_over {d = took_one c} k refl (handles_over v (took_one c) l (omega arith) (ap (λ (n : ℕ). Refused (fault 4 (Index n))) i)) refl)
-
-          pub plain_put : {out₁ out' : List ℕ} {r : Wrote} → c.handles + v ≤ 64 → out₁ ≡ sets out at (envelope_bytes bytes v 0)
-              → NumbersPut values out₁ out' base 8 (words_from_lem c bytes (c.handles + v) (c.index + 1)) r → Puts values out out' 8 at base c r (write_unknown_out_of_line bytes)
-          plain_put few stored q = out_put {d = took_one c} k refl {f = holding v (took_one c)} (handles_taken v (took_one c) few) refl stored q
 
 -- ---- unknown content
 
@@ -302,7 +293,7 @@ module _ (values : List ℕ) (base at : ℕ) (c : Cursor) (ask : Ask values 8 at
   content_ask = rw e (record { inside = ask.inside; free = ask.free; held = ask.held; left = omega arith })
 
 module _ (values out : List ℕ) (depth base at : ℕ) (c : Cursor) (ask : Ask values 8 at base c) where
-  pub content_deep : {r : Wrote} → depth ≡ 0 → 0 < c.index → r ≡ Refused (fault too_deep (Index (c.index - 1))) → UnknownPuts values out out depth at c base r
+  pub content_deep : {r : Wrote} → depth ≡ 0 → 0 < c.index → r ≡ Err (fault too_deep (Index (c.index - 1))) → UnknownPuts values out out depth at c base r
   unfolding write_unknown R.levels
   content_deep z some e t =
       rw (e, z) (put_cannot too_deep (suc (length (drop c.index values))) (c.index - 1) (omega (arith, ask.left, some, length-drop c.index values)))
@@ -318,21 +309,21 @@ module _ (values out : List ℕ) (depth base at : ℕ) (c : Cursor) (ask : Ask v
         go zero k = absurd (k refl)
         go (suc n) k = refl
 
-    pub content_ended : {r : Wrote} → length values ≤ c.index → r ≡ Refused (fault not_a_value (Index c.index)) → UnknownPuts values out out depth at c base r
+    pub content_ended : {r : Wrote} → length values ≤ c.index → r ≡ Err (fault not_a_value (Index c.index)) → UnknownPuts values out out depth at c base r
     content_ended h e t =
         rw (e, content_goes t, number_short byte_number_fits content_next values c.index c.next c.handles h) (put_cannot not_a_value 0 c.index (omega (arith, ask.left)))
 
     module _ {v : ℕ} (h : c.index < length values) (read : v ≡ get_or values c.index 0) where
-      content_unfit : byte_number_fits v ≡ false → UnknownPuts values out out depth at c base (Refused (fault not_a_value (Index c.index)))
+      content_unfit : byte_number_fits v ≡ false → UnknownPuts values out out depth at c base (Err (fault not_a_value (Index c.index)))
       content_unfit w t =
           rw (content_goes t, number_at byte_number_fits content_next values c.index c.next c.handles h, ← read, w)
           (put_cannot not_a_value (suc (length (drop (c.index + 1) values))) c.index (omega (arith, length-drop (c.index + 1) values)))
 
-      pub content_odd : {r : Wrote} → (v % 8 ≡ 0 → ⊥) → r ≡ Refused (fault not_a_value (Index c.index)) → UnknownPuts values out out depth at c base r
+      pub content_odd : {r : Wrote} → (v % 8 ≡ 0 → ⊥) → r ≡ Err (fault not_a_value (Index c.index)) → UnknownPuts values out out depth at c base r
       content_odd k e = let w : byte_number_fits v ≡ false = rw (ne_eqb (v % 8) 0 k) in rw e (content_unfit w)
 
       module _ (eights : v % 8 ≡ 0) where
-        pub content_large : {r : Wrote} → 4294967295 < v → r ≡ Refused (fault not_a_value (Index c.index)) → UnknownPuts values out out depth at c base r
+        pub content_large : {r : Wrote} → 4294967295 < v → r ≡ Err (fault not_a_value (Index c.index)) → UnknownPuts values out out depth at c base r
         content_large k e =
             let l : ltb v 4294967296 ≡ false = le-ltb v 4294967296 (omega arith) in
             let w : byte_number_fits v ≡ false = rw (eights, l) in rw e (content_unfit w)

@@ -1,7 +1,7 @@
 -- What the functions of records.rt and envelopes.rt promise. Each holds under any type table in which the sizes handed in are the
 -- rows', wherever the output starts; tables and unions where envelopes have eight bytes.
 -- Assumes nothing.
-use Rattle.std.specs.Prelude.{true, List, ◌++◌, ◌≡◌, ℕ, zero, suc, ◌+◌, ◌-◌, ◌*◌, ◌/◌, ◌%◌, ◌<◌, eqb, leb, length, drop, get_or, if◌then◌else◌}
+use Rattle.std.specs.Prelude.{true, List, ◌++◌, ◌≡◌, ℕ, zero, suc, ◌+◌, ◌-◌, ◌*◌, ◌/◌, ◌%◌, ◌<◌, eqb, leb, length, drop, get_or, if◌then◌else◌, Err, Ok, Option, Result}
 use Rattle.std.proofs.lemmas.List.Edits.{sets}
 use Rattle.rules.specs.Bytes.{ones64, zeros, bytes_of}
 use Rattle.rules.specs.TypeTable.{TypeTable, eight_byte_envelopes, Content, content_of}
@@ -11,50 +11,37 @@ use Rattle.rules.specs.Encode.{Encoder}
 use Rattle.rules.specs.Records.{ordinal_pattern, write_number, write_presence, write_count, write_table}
 use Rattle.rules.specs.Envelope.{in_line, out_of_line, envelope_bytes, write_content_of_eight_bytes, write_unknown}
 use Rattle.rules.specs.Writer as R
-use Rattle.ordinals.specs.declared.Ordinal.{Ordinal}
 use Rattle.ordinals.specs.Ordinals.{ordinal_is, ContentIs}
 use Rattle.write_leaves.specs.declared.cursor.Cursor.{Cursor}
-use Rattle.write_leaves.specs.declared.cursor.Wrote.{Wrote}
-use Rattle.write_leaves.specs.declared.cursor.Wrote.TheVariants as W
+use Rattle.write_leaves.specs.Putting.{Wrote, Put, Puts, took_one, Ask}
 use Rattle.write_records.specs.declared.records.Opening.{Opening}
 use Rattle.write_records.specs.declared.records.Opened.{Opened}
-use Rattle.write_records.specs.declared.records.Opened.TheVariants.{Closed, Open, Refused}
+use Rattle.write_records.specs.declared.records.Opened.TheVariants.{Closed, Open}
 use Rattle.write_records.specs.declared.envelopes.Member.{Member}
-use Rattle.write_records.specs.declared.envelopes.Member.TheVariants.{None, Some, Bad}
-use Rattle.write_leaves.specs.Putting.{Put, Puts, took_one, Ask}
+use Rattle.write_records.specs.declared.envelopes.Member.TheVariants.{Absent, Present}
 use Rattle.write_leaves.specs.InLine.{numbers_as}
-use Rattle.write_records.specs.Opening.{claimed_from, ObjectPut, Opens}
+use Rattle.write_records.specs.Opening.{claimed_from, to_open, ObjectPut, Opens}
+use Rattle.rules.specs.declared.Fault.{Fault}
 
--- An object that is open has so many elements, and a level of depth was left for it.
-abbrev pub HasCount : (count : ℕ) → Opened → Type 0
-HasCount count (Closed d) = Unit {0}
-HasCount count (Refused f) = Unit {0}
-HasCount count (Open x) = x.count ≡ count
-
--- A claim is open or refused.
-abbrev pub NotClosed : Opened → Type 0
-NotClosed (Closed d) = ⊥
-NotClosed (Refused f) = Unit {0}
-NotClosed (Open x) = Unit {0}
-
-abbrev pub Reaches : (depth : ℕ) → Opened → Type 0
-Reaches depth (Closed d) = Unit {0}
-Reaches depth (Refused f) = Unit {0}
-Reaches depth (Open x) = 0 < depth
+-- For an object that is open a level of depth was left.
+abbrev pub Reaches : (depth : ℕ) → Result Opened Fault → Type 0
+Reaches depth (Ok (Closed d)) = Unit {0}
+Reaches depth (Err f) = Unit {0}
+Reaches depth (Ok (Open x)) = 0 < depth
 
 -- A claim, whatever is written in it: 3. The output is left alone.
-abbrev pub ClaimOpens : (size : ℕ) (c : Cursor) → Opened → Type 0
+abbrev pub ClaimOpens : (size : ℕ) (c : Cursor) → Result Opening Fault → Type 0
 ClaimOpens size c r =
     (values out : List ℕ) (at base : ℕ) (fields : Encoder) → Ask values 0 at base c
-    → Opens values out out 0 at base c (E.claim size fields (drop c.index values) c.next c.handles) (λ x. size) (λ x. fields) r
+    → Opens values out out 0 at base c (E.claim size fields (drop c.index values) c.next c.handles) (λ x. size) (λ x. fields) (to_open r)
 
 -- One level deeper, and a claim there: 5, 3.
-abbrev pub DeeperOpens : (depth size : ℕ) (c : Cursor) → Opened → Type 0
+abbrev pub DeeperOpens : (depth size : ℕ) (c : Cursor) → Result Opening Fault → Type 0
 DeeperOpens depth size c r =
     (t : TypeTable) (values out : List ℕ) (at base : ℕ) (fields : (ℕ → Encoder) → E.Deeper → Encoder) → Ask values 0 at base c
     → Opens values out out 0 at base c
     (E.one_deeper (R.levels t depth) (λ rows b. E.claim size (fields rows b)) (drop c.index values) c.next c.handles) (λ x. size)
-    (λ x. fields (R.encode_row t (R.levels t (depth - 1))) (R.levels t (depth - 1))) r
+    (λ x. fields (R.encode_row t (R.levels t (depth - 1))) (R.levels t (depth - 1))) (to_open r)
 
 -- An object of an opening's count of numbers of a width, from its claim on.
 abbrev pub NumbersPut : (values out out' : List ℕ) (base width : ℕ) (x : Opening) → Wrote → Type 0
@@ -67,7 +54,7 @@ after_count below size fields (suc count) = E.one_deeper below (λ rows b. E.cla
 
 module _ (values out out' : List ℕ) (depth at : ℕ) (c : Cursor) where
   -- A count's record, and the object that it leads to.
-  abbrev pub CountedOpens : (size largest optional : ℕ) → Opened → Type 0
+  abbrev pub CountedOpens : (size largest optional : ℕ) → Result Opened Fault → Type 0
   CountedOpens size largest optional r =
       (t : TypeTable) (base : ℕ) (fields : (count : ℕ) → (ℕ → Encoder) → E.Deeper → Encoder) → Ask values 16 at base c
       → Opens values out out' 16 at base c
@@ -75,7 +62,7 @@ module _ (values out out' : List ℕ) (depth at : ℕ) (c : Cursor) where
       (λ x. x.count * size) (λ x. fields x.count (R.encode_row t (R.levels t (depth - 1))) (R.levels t (depth - 1))) r
 
   -- The same of a vector, whose elements are of a row of that size; it follows from the above.
-  abbrev pub VectorOpens : (size largest optional : ℕ) → Opened → Type 0
+  abbrev pub VectorOpens : (size largest optional : ℕ) → Result Opened Fault → Type 0
   VectorOpens size largest optional r =
       (t : TypeTable) (element base : ℕ) → size_of t element ≡ size → Ask values 16 at base c
       → Opens values out out' 16 at base c
@@ -86,14 +73,14 @@ module _ (values out out' : List ℕ) (depth at : ℕ) (c : Cursor) where
   StringPuts base largest optional r =
       (t : TypeTable) → Puts values out out' 16 at base c r (E.record_then (write_count (eqb optional 1) largest) (R.after_string t (R.levels t depth)))
 
-  abbrev pub BoxOpens : (size : ℕ) → Opened → Type 0
+  abbrev pub BoxOpens : (size : ℕ) → Result Opened Fault → Type 0
   BoxOpens size r =
       (t : TypeTable) (element base : ℕ) → size_of t element ≡ size → Ask values 8 at base c
       → Opens values out out' 8 at base c
       (E.record_then (write_presence 8 ones64 true) (R.after_box t (R.levels t depth) element) (drop c.index values) c.next c.handles)
       (λ x. size) (λ x. R.encode_row t (R.levels t (depth - 1)) element) r
 
-  abbrev pub TableOpens : Opened → Type 0
+  abbrev pub TableOpens : Result Opened Fault → Type 0
   TableOpens r =
       (t : TypeTable) (content : ℕ → Content) (base : ℕ) → t.edition ≡ eight_byte_envelopes → Ask values 16 at base c
       → Opens values out out' 16 at base c
@@ -115,15 +102,15 @@ sealed_out out size at bytes handles =
 -- ---- a union
 
 -- Put already, or refused; or whoever writes the member's content in the envelope after the ordinal has put the whole.
-abbrev pub OpensMember : (values out out' : List ℕ) (inline at base : ℕ) (c : Cursor) (whole : E.Encoded) (content : Ordinal → Encoder) → Member → Type 0
-OpensMember values out out' inline at base c whole content (None d) = Put values out out' inline at base c (W.On d) whole
-OpensMember values out out' inline at base c whole content (Bad f) = Put values out out' inline at base c (W.Refused f) whole
-OpensMember values out out' inline at base c whole content (Some what d) =
+abbrev pub OpensMember : (values out out' : List ℕ) (inline at base : ℕ) (c : Cursor) (whole : E.Encoded) (content : Option ℕ → Encoder) → Result Member Fault → Type 0
+OpensMember values out out' inline at base c whole content (Ok (Absent d)) = Put values out out' inline at base c (Ok d) whole
+OpensMember values out out' inline at base c whole content (Err f) = Put values out out' inline at base c (Err f) whole
+OpensMember values out out' inline at base c whole content (Ok (Present what d)) =
     (d ≡ took_one c) × (c.index < length values)
     × ((out'' : List ℕ) (r : Wrote) → Puts values out' out'' 8 (at + 8) base d r (content what) → Put values out out'' inline at base c r whole)
 
 -- A union whose members are so many from `first` on; `form` is 1 for optional, 2 for flexible, 3 for both.
-abbrev pub UnionOpens : (members values out out' : List ℕ) (at : ℕ) (c : Cursor) (first count form : ℕ) → Member → Type 0
+abbrev pub UnionOpens : (members values out out' : List ℕ) (at : ℕ) (c : Cursor) (first count form : ℕ) → Result Member Fault → Type 0
 UnionOpens members values out out' at c first count form r =
     (t : TypeTable) (depth base : ℕ) → t.edition ≡ eight_byte_envelopes → t.members ≡ members → Ask values 16 at base c
     → OpensMember values out out' 16 at base c
@@ -132,7 +119,7 @@ UnionOpens members values out out' at c first count form r =
     (λ what. write_content_of_eight_bytes t (R.levels t depth) (ordinal_is what)) r
 
 -- The member that a union's number stands for.
-abbrev pub MemberIs : (members values : List ℕ) (c : Cursor) (first count : ℕ) → Member → Type 0
-MemberIs members values c first count (None d) = Unit {0}
-MemberIs members values c first count (Bad f) = Unit {0}
-MemberIs members values c first count (Some what d) = ContentIs members first count (get_or values c.index 0) what
+abbrev pub MemberIs : (members values : List ℕ) (c : Cursor) (first count : ℕ) → Result Member Fault → Type 0
+MemberIs members values c first count (Ok (Absent d)) = Unit {0}
+MemberIs members values c first count (Err f) = Unit {0}
+MemberIs members values c first count (Ok (Present what d)) = ContentIs members first count (get_or values c.index 0) what

@@ -1,5 +1,6 @@
 -- The loop over nested structs and arrays: what it keeps, and what each of its steps makes of it.
 -- Assumes nothing.
+use Rattle.std.specs.Prelude.{Err, Ok}
 use mathlib.Core.Bool.{Bool, true, false}
 use mathlib.Core.List.{List}
 use mathlib.Core.Path.{◌≡◌, refl, ap, ◌∙◌}
@@ -25,9 +26,7 @@ use Rattle.plans.proofs.Rows.{row_start, rows_open}
 use Rattle.nesting.proofs.Turns as T
 use Rattle.nesting.proofs.Work.{WorkLeft, item_asks, item_on, item_refused, work_end}
 use Rattle.write_leaves.specs.declared.cursor.Cursor.{Cursor}
-use Rattle.write_leaves.specs.declared.cursor.Wrote.{Wrote}
-use Rattle.write_leaves.specs.declared.cursor.Wrote.TheVariants.{On, Refused}
-use Rattle.write_leaves.specs.Putting.{Ask}
+use Rattle.write_leaves.specs.Putting.{Wrote, Ask}
 use Rattle.write_walk.specs.Walking.{write_row, ValuePut}
 use Rattle.write_leaves.proofs.Leading.{ask_stands, wrote_length}
 use Rattle.write_leaves.proofs.Filling.{fill_put}
@@ -92,15 +91,15 @@ module _ {none : Level} {t : TypeTable} {sizes alignments values : List ℕ} {ba
     call_asks q = let turn = T.turn_call ready bounded (step q) w.going in (turn.0, item_asks turn.2, turn.1)
 
     module _ {part : ℕ} {out'' : List ℕ} {r : Wrote} (q : s ≡ Call part) (p : ValuePut t values out' out'' base depth place d part r) where
-      pub call_done : {f : Cursor} {size : ℕ} → r ≡ On f → size ≡ get_or sizes part 0
+      pub call_done : {f : Cursor} {size : ℕ} → r ≡ Ok f → size ≡ get_or sizes part 0
           → Writing none t alignments values base depth top at out c out'' kept around level true (place + size) f × (fuel t.rows level true (place + size) around < fuel t.rows level due place around)
       call_done {f} same is =
-          let put : ValuePut t values out' out'' base depth place d part (On f) = rw same at p in
+          let put : ValuePut t values out' out'' base depth place d part (Ok f) = rw same at p in
           let left = item_on (T.turn_call ready bounded (step q) w.going).2 put in
           let turn = T.turn_called ready bounded (step q) w.going is (PartsLeft t values base depth top at out c out'' f) (parts_bounded t values base depth top at out c out'' f) left in
           (record { going = turn.0; lengths = wrote_length put ∙ w.lengths }, turn.1)
 
-      pub call_refused : {f : Fault} → r ≡ Refused f → ValuePut t values out out'' base depth at c top (Refused f)
+      pub call_refused : {f : Fault} → r ≡ Err f → ValuePut t values out out'' base depth at c top (Err f)
       call_refused same = item_refused (T.turn_call ready bounded (step q) w.going).2 (rw same at p)
 
     pub out_done : s ≡ Out
@@ -108,5 +107,5 @@ module _ {none : Level} {t : TypeTable} {sizes alignments values : List ℕ} {ba
         × (fuel t.rows (get_or kept (around - 1) none) true place (around - 1) < fuel t.rows level due place around) × (0 < around)
     out_done q = let turn = T.turn_out ready bounded (step q) w.going in (record { going = turn.0; lengths = w.lengths }, turn.1, turn.2)
 
-    pub all_put : s ≡ Done → ValuePut t values out out' base depth at c top (On d)
+    pub all_put : s ≡ Done → ValuePut t values out out' base depth at c top (Ok d)
     all_put q = work_end (T.turn_done ready bounded (step q) w.going)

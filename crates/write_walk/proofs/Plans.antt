@@ -1,20 +1,20 @@
 -- A row whose value is flat is written by its plan.
 -- Assumes nothing.
+use Rattle.std.specs.Prelude.{Option, Some}
 use mathlib.Core.List.{List}
 use mathlib.Core.Path.{◌≡◌}
-use Prim.Native.Nat.{ℕ, ◌*◌, ◌≤◌, ◌<◌}
+use Prim.Native.Nat.{ℕ, ◌*◌}
 use native.Mathlib.Omega.{arith}
 use lib.ListN.{get_or}
 use Rattle.rules.specs.TypeTable.{TypeTable}
 use Rattle.rules.specs.Sizes.{size_of}
 use Rattle.rules.specs.Encode as E
-use Rattle.plans.specs.declared.Plan.{Plan}
-use Rattle.plans.specs.Plans.{width_layout, parts_size, parts_of, Runnable, plan_of, plan_as}
+use Rattle.plans.specs.declared.Part.{Part}
+use Rattle.plans.specs.Plans.{width_layout, Runnable, part_fields, parts_size, plan_of}
 use Rattle.layout.specs.Ready.{Ready}
 use Rattle.plans.proofs.Rows as Shared
 use Rattle.write_leaves.specs.declared.cursor.Cursor.{Cursor}
-use Rattle.write_leaves.specs.declared.cursor.Wrote.{Wrote}
-use Rattle.write_leaves.specs.Putting.{Ask}
+use Rattle.write_leaves.specs.Putting.{Wrote, Ask}
 use Rattle.write_leaves.specs.Planning.{width_as, parts_as, PutAsked}
 use Rattle.write_leaves.proofs.Writing.{writing, run_fields}
 use Rattle.write_walk.specs.Walking.{ValuePut, ElementsPut}
@@ -23,23 +23,23 @@ use Rattle.write_walk.proofs.Rows.{rows_written}
 pub any_base : {values : List ℕ} {need at base : ℕ} {c : Cursor} → Ask values need at base c → Ask values need at 0 c
 any_base a = record { inside = omega (arith, a.inside); free = a.free; held = a.held; left = a.left }
 
-module _ {t : TypeTable} {sizes alignments : List ℕ} {depth row : ℕ} (ready : Ready t sizes alignments depth row) {plan : Plan} (made : plan ≡ plan_as (plan_of t.rows t.members alignments row)) (some : 0 < plan.count)
-    {size : ℕ} (s : size ≡ get_or sizes row 0) where
+-- A plan that was made, and its parts as they are lent.
+module _ {t : TypeTable} {sizes alignments : List ℕ} {depth row : ℕ} (ready : Ready t sizes alignments depth row) {made : Option (List Part)} (m : made ≡ plan_of t.rows t.members alignments row)
+    {plan : List Part} (some : made ≡ Some plan) {parts : List Part} (lent : parts ≡ plan) {size : ℕ} (s : size ≡ get_or sizes row 0) where
   pub planned_ask : {values : List ℕ} {at base : ℕ} {c : Cursor} (count : ℕ) → Ask values (count * size_of t row) at base c
-      → (plan.count ≤ 16) × Runnable (parts_of plan) × (parts_size (parts_of plan) ≡ size) × Ask values (count * size) at 0 c
-  planned_ask {values} {at} {c = c} count ask = Shared.plan_asks ready made some s (λ need. Ask values need at 0 c) count (any_base ask)
+      → Runnable parts × (parts_size parts ≡ size) × Ask values (count * size) at 0 c
+  planned_ask {values} {at} {c = c} count ask = Shared.plan_asks ready m some lent s (λ need. Ask values need at 0 c) count (any_base ask)
 
-  pub alone_ask : {values : List ℕ} {at base : ℕ} {c : Cursor} → Ask values (size_of t row) at base c
-      → (plan.count ≤ 16) × Runnable (parts_of plan) × (parts_size (parts_of plan) ≡ size) × Ask values (1 * size) at 0 c
-  alone_ask {values} {at} {c = c} ask = Shared.alone_asks ready made some s (λ need. Ask values need at 0 c) (any_base ask)
+  pub alone_ask : {values : List ℕ} {at base : ℕ} {c : Cursor} → Ask values (size_of t row) at base c → Runnable parts × (parts_size parts ≡ size) × Ask values (1 * size) at 0 c
+  alone_ask {values} {at} {c = c} ask = Shared.alone_asks ready m some lent s (λ need. Ask values need at 0 c) (any_base ask)
 
   module _ (values out out' : List ℕ) (base at : ℕ) (c : Cursor) (r : Wrote) where
     pub planned_done : (count : ℕ) → Ask values (count * size_of t row) at base c
-        → PutAsked values out out' (count * size) at c r (E.elements (λ i. parts_as (parts_of plan)) 0 count) → ElementsPut t values out out' base depth at c row count r
+        → PutAsked values out out' (count * size) at c r (E.elements (λ i. parts_as parts) 0 count) → ElementsPut t values out out' base depth at c row count r
     planned_done count ask put =
-        Shared.plan_done ready made some s (rows_written t depth ready.sound) (writing values base) (run_fields width_layout width_as (parts_of plan)) count ask (put base)
+        Shared.plan_done ready m some lent s (rows_written t depth ready.sound) (writing values base) (run_fields width_layout width_as (part_fields parts)) count ask (put base)
 
     pub alone_done : Ask values (size_of t row) at base c
-        → PutAsked values out out' (1 * size) at c r (E.elements (λ i. parts_as (parts_of plan)) 0 1) → ValuePut t values out out' base depth at c row r
+        → PutAsked values out out' (1 * size) at c r (E.elements (λ i. parts_as parts) 0 1) → ValuePut t values out out' base depth at c row r
     alone_done ask put =
-        Shared.alone_done ready made some s (rows_written t depth ready.sound) (writing values base) (run_fields width_layout width_as (parts_of plan)) ask (put base)
+        Shared.alone_done ready m some lent s (rows_written t depth ready.sound) (writing values base) (run_fields width_layout width_as (part_fields parts)) ask (put base)

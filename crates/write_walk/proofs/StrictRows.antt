@@ -14,8 +14,7 @@ use Rattle.layout.specs.Ready.{Ready}
 use Rattle.strict.specs.Strict.{StrictRow}
 use Rattle.strict.proofs.Rows.{strict_row, strict_size}
 use Rattle.write_leaves.specs.declared.cursor.Cursor.{Cursor}
-use Rattle.write_leaves.specs.declared.cursor.Wrote.{Wrote}
-use Rattle.write_leaves.specs.Putting.{Ask}
+use Rattle.write_leaves.specs.Putting.{Wrote, Ask}
 use Rattle.write_leaves.specs.InLine.{strict_as}
 use Rattle.write_leaves.specs.Planning.{PutAsked}
 use Rattle.write_leaves.proofs.Strict as Leaves

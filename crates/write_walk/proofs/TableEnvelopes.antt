@@ -1,5 +1,6 @@
 -- A table's envelopes in turn: absent ones, and those with content.
 -- Assumes nothing.
+use Rattle.std.specs.Prelude.{Err, Ok, Option}
 use mathlib.Core.Bool.{Bool, true, false, ◌&&◌, ◌||◌}
 use mathlib.Core.List.{List, [], ◌∷◌}
 use mathlib.Core.Path.{◌≡◌, refl, ◌∙◌}
@@ -19,13 +20,10 @@ use Rattle.rules.specs.Encode as E
 use Rattle.rules.specs.Encode.{Encoder, cannot, wrote}
 use Rattle.rules.specs.Envelope.{write_content_of_eight_bytes}
 use Rattle.rules.specs.Writer as R
-use Rattle.ordinals.specs.declared.Ordinal.{Ordinal}
 use Rattle.ordinals.specs.Ordinals.{ordinal_is}
 use Rattle.nesting.proofs.Runs.{RunLeft, run_start, run_asks, run_on, run_refused, run_end}
 use Rattle.write_leaves.specs.declared.cursor.Cursor.{Cursor}
-use Rattle.write_leaves.specs.declared.cursor.Wrote.{Wrote}
-use Rattle.write_leaves.specs.declared.cursor.Wrote.TheVariants.{On, Refused}
-use Rattle.write_leaves.specs.Putting.{Puts, took_one, Ask}
+use Rattle.write_leaves.specs.Putting.{Wrote, Puts, took_one, Ask}
 use Rattle.write_walk.specs.Walking.{write_envelope, EnvelopesPut, ContentPut}
 use Rattle.write_leaves.proofs.InLine.{put_in_line, put_cannot}
 use Rattle.write_records.proofs.UnknownContent.{put_later}
@@ -84,14 +82,14 @@ module _ (t : TypeTable) (values : List ℕ) (base depth row count : ℕ) (out :
   envelopes_start a = let r : count - 0 ≡ count = omega arith in rw r (run_start 1 count 0 refl a)
 
   module _ {out' : List ℕ} {d : Cursor} {i : ℕ} (r : EnvelopesLeft t values base depth row count out out' c d i) where
-    pub envelopes_end : count ≤ i → EnvelopesPut t values out out' base depth c row count (On d)
+    pub envelopes_end : count ≤ i → EnvelopesPut t values out out' base depth c row count (Ok d)
     envelopes_end h = run_end r (omega arith)
 
     module _ (h : i < count) where
       pub envelope_asks : Ask values 8 (i * 8) base d
       envelope_asks = run_asks r (omega arith)
 
-      turn : {out'' : List ℕ} {e : Cursor} → Puts values out' out'' 8 (i * 8) base d (On e) (write_envelope t depth row count (i + 1))
+      turn : {out'' : List ℕ} {e : Cursor} → Puts values out' out'' 8 (i * 8) base d (Ok e) (write_envelope t depth row count (i + 1))
           → EnvelopesLeft t values base depth row count out out'' c e (i + 1)
       turn put =
           let s : count - i - 1 ≡ count - (i + 1) = omega arith in
@@ -101,13 +99,13 @@ module _ (t : TypeTable) (values : List ℕ) (base depth row count : ℕ) (out :
       abbrev content_at : Encoder
       content_at = write_content_of_eight_bytes t (R.levels t depth) (content_of t (a_at t row) (b_at t row) (i + 1))
 
-      pub one_ended : {w : Wrote} → length values ≤ d.index → w ≡ Refused (fault not_a_value (Index d.index)) → EnvelopesPut t values out out' base depth c row count w
+      pub one_ended : {w : Wrote} → length values ≤ d.index → w ≡ Err (fault not_a_value (Index d.index)) → EnvelopesPut t values out out' base depth c row count w
       one_ended k y =
           let a = envelope_asks in
           rw y (run_refused r (omega arith) (rw (envelope_short (eqb (i + 1) count) content_at values d.index d.next d.handles k) (put_cannot not_a_value 0 d.index (omega (arith, a.left)))))
 
       module _ {v : ℕ} (k : d.index < length values) (read : v ≡ get_or values d.index 0) where
-        pub one_wrong : {w : Wrote} → ltb 1 v || (eqb v 0 && eqb (i + 1) count) ≡ true → w ≡ Refused (fault not_a_value (Index d.index))
+        pub one_wrong : {w : Wrote} → ltb 1 v || (eqb v 0 && eqb (i + 1) count) ≡ true → w ≡ Err (fault not_a_value (Index d.index))
             → EnvelopesPut t values out out' base depth c row count w
         one_wrong test y =
             rw y (run_refused r (omega arith) (rw (envelope_wrong (eqb (i + 1) count) content_at values d.index d.next d.handles k read test)
@@ -124,15 +122,15 @@ module _ (t : TypeTable) (values : List ℕ) (base depth row count : ℕ) (out :
           pub content_asks : Ask values 8 (i * 8) base e × (0 < e.index)
           content_asks = let a = envelope_asks in rw took (record { inside = a.inside; free = a.free; held = a.held; left = omega arith }, omega arith)
 
-          module _ {first known : ℕ} (what : Ordinal) {out'' : List ℕ} {w : Wrote} (n : v ≡ 0 → ⊥) (f : first ≡ a_at t row) (g : known ≡ b_at t row)
+          module _ {first known : ℕ} (what : Option ℕ) {out'' : List ℕ} {w : Wrote} (n : v ≡ 0 → ⊥) (f : first ≡ a_at t row) (g : known ≡ b_at t row)
               (is : ordinal_is what ≡ content_of t first known (i + 1)) (put : ContentPut t values out' out'' base depth (i * 8) e what w) where
             present : Puts values out' out'' 8 (i * 8) base d w (write_envelope t depth row count (i + 1))
             present =
                 let q : ContentPut t values out' out'' base depth (i * 8) (took_one d) what w = rw took at put in
                 rw (envelope_present (eqb (i + 1) count) content_at values d.index d.next d.handles k read test n, ← f, ← g, ← is) (put_later q)
 
-            pub one_present : {f : Cursor} → w ≡ On f → EnvelopesLeft t values base depth row count out out'' c f (i + 1)
+            pub one_present : {f : Cursor} → w ≡ Ok f → EnvelopesLeft t values base depth row count out out'' c f (i + 1)
             one_present y = turn (rw y at present)
 
-            pub one_refused : {f : Fault} → w ≡ Refused f → EnvelopesPut t values out out'' base depth c row count (Refused f)
+            pub one_refused : {f : Fault} → w ≡ Err f → EnvelopesPut t values out out'' base depth c row count (Err f)
             one_refused y = run_refused r (omega arith) (rw y at present)

@@ -1,5 +1,6 @@
 -- The values that stand in line: for each kind, what the functions below the walk put is what the rules' writer of the row puts.
 -- Assumes nothing.
+use Rattle.std.specs.Prelude.{Ok}
 use mathlib.Core.Bool.{Bool, true, false, ◌||◌}
 use mathlib.Core.List.{List}
 use mathlib.Core.Path.{◌≡◌, refl, sym, ◌∙◌}
@@ -19,9 +20,7 @@ use Rattle.layout.proofs.ByKind.{size_bool, size_number, size_handle, size_array
 use Rattle.nesting.proofs.NoParts.{array_left, struct_empty, array_numbers, size_empty}
 use Rattle.layout.proofs.Readiness.{row_few, ready_at}
 use Rattle.write_leaves.specs.declared.cursor.Cursor.{Cursor}
-use Rattle.write_leaves.specs.declared.cursor.Wrote.{Wrote}
-use Rattle.write_leaves.specs.declared.cursor.Wrote.TheVariants.{On}
-use Rattle.write_leaves.specs.Putting.{PutsInLine, Stands, Ask}
+use Rattle.write_leaves.specs.Putting.{Wrote, PutsInLine, Stands, Ask}
 use Rattle.write_leaves.specs.InLine.{bool_as, handle_as, numbers_as}
 use Rattle.write_records.specs.Promises.{StringPuts}
 use Rattle.write_walk.specs.Walking.{ValuePut, ElementsPut}
@@ -72,10 +71,8 @@ module _ {t : TypeTable} {sizes alignments : List ℕ} {depth row : ℕ} (ready 
   wide = size_number t row (sym e ∙ q) ∙ sym f
 
   pub number_ask : {values : List ℕ} {at base : ℕ} {c : Cursor} → Ask values (size_of t row) at base c
-      → (width_allowed width ≡ true) × Stands values c × (at + width ≤ 65536)
-  number_ask {at = at} {base} {c} ask =
-      let inside : base + (at + width) ≤ c.next = rw wide at ask.inside in
-      (allowed, ask_stands ask, omega (arith, ask.free))
+      → (width_allowed width ≡ true) × Stands values c
+  number_ask ask = (allowed, ask_stands ask)
 
   pub numbers_ask : {values : List ℕ} {at base : ℕ} {c : Cursor} (count : ℕ) → Ask values (count * size_of t row) at base c
       → (width_allowed width ≡ true) × Stands values c × (at + count * width ≤ 65536)
@@ -95,7 +92,7 @@ module _ {t : TypeTable} {sizes alignments : List ℕ} {depth row : ℕ} (ready 
     (e : k ≡ kind_at t row) (p : found ≡ has_parts t.rows row) (n : found ≡ false) where
   -- an empty struct
   pub value_empty : {values out out' : List ℕ} {base at : ℕ} {c : Cursor} → k ≡ 7 → Ask values (size_of t row) at base c → out' ≡ sets out at (zeros 1)
-      → ValuePut t values out out' base depth at c row (On c)
+      → ValuePut t values out out' base depth at c row (Ok c)
   value_empty {base = base} q ask s =
       let z = struct_empty t.rows row (row_few ready) (sym p ∙ n) (sym e ∙ q) in
       rw (encode_empty t (R.levels t depth) row (sym e ∙ q) z, size_empty t row (sym e ∙ q) z) (fill_put 1 (ask_stands ask) s base)

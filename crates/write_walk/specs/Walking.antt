@@ -1,25 +1,22 @@
 -- What the functions of cycle.rt ask for and promise.
 -- Assumes nothing.
-use Rattle.std.specs.Prelude.{List, ◌≡◌, ℕ, ◌*◌, eqb}
+use Rattle.std.specs.Prelude.{List, ◌≡◌, ℕ, ◌*◌, eqb, Option, Some}
 use Rattle.rules.specs.TypeTable.{TypeTable, a_at, b_at, content_of}
 use Rattle.rules.specs.Sizes.{size_of}
 use Rattle.rules.specs.Encode as E
 use Rattle.rules.specs.Encode.{Encoder}
 use Rattle.rules.specs.Envelope.{write_content_of_eight_bytes}
 use Rattle.rules.specs.Writer as R
-use Rattle.ordinals.specs.declared.Ordinal.{Ordinal}
-use Rattle.ordinals.specs.declared.Ordinal.TheVariants.{Known}
 use Rattle.ordinals.specs.Ordinals.{ordinal_is}
 use Rattle.layout.specs.Ready.{Ready}
 use Rattle.write_leaves.specs.declared.cursor.Cursor.{Cursor}
-use Rattle.write_leaves.specs.declared.cursor.Wrote.{Wrote}
+use Rattle.write_leaves.specs.Putting.{Wrote, Puts}
 use Rattle.write_records.specs.declared.records.Opening.{Opening}
-use Rattle.write_leaves.specs.Putting.{Puts}
 use Rattle.write_records.specs.Opening.{claimed_from, ObjectPut}
 
 -- What content of an ordinal needs of a type table.
-pub record PayloadReady (t : TypeTable) (sizes alignments : List ℕ) (depth : ℕ) (what : Ordinal) : Type 0 where
-  pub row_ready : (payload : ℕ) → what ≡ Known payload → Ready t sizes alignments depth payload
+pub record PayloadReady (t : TypeTable) (sizes alignments : List ℕ) (depth : ℕ) (what : Option ℕ) : Type 0 where
+  pub row_ready : (payload : ℕ) → what ≡ Some payload → Ready t sizes alignments depth payload
 
 module _ (t : TypeTable) where
   -- The value of a row, so deep.
@@ -54,5 +51,5 @@ module _ (t : TypeTable) where
     abbrev pub EnvelopesPut : (c : Cursor) (row count : ℕ) → Wrote → Type 0
     EnvelopesPut c row count r = Puts values out out' (count * 8) 0 base c r (E.elements (write_envelope depth row count) 1 count)
 
-    abbrev pub ContentPut : (at : ℕ) (c : Cursor) → Ordinal → Wrote → Type 0
+    abbrev pub ContentPut : (at : ℕ) (c : Cursor) → Option ℕ → Wrote → Type 0
     ContentPut at c what r = Puts values out out' 8 at base c r (write_content_of_eight_bytes t (R.levels t depth) (ordinal_is what))

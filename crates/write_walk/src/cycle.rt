@@ -1,17 +1,19 @@
 // Value, element and envelope writer: they call each other until the depth is spent, as the walk of a message does. Rows of
 // smaller numbers stand in line; whatever stands out of line is one level down.
 ghost use Rattle.std.specs.Prelude.{true, ◌≡◌, ◌*◌, ◌<◌};
-ghost use Rattle.rules.specs.TypeTable.{type_table, kind_at};
+ghost use Rattle.rules.specs.TypeTable.{kind_at};
 ghost use Rattle.rules.specs.Sizes.{size_of};
 ghost use Rattle.nesting.specs.Nesting.{has_parts};
-ghost use Rattle.layout.specs.Ready.{Ready, Outside};
+ghost use Rattle.layout.specs.Ready.{Ready, table_in, Outside};
 ghost use Rattle.write_leaves.specs.Putting.{Ask, cursor_at};
 ghost use Rattle.write_records.specs.Opening.{Claimed};
 ghost use Rattle.write_walk.specs.Walking.{PayloadReady, ValuePut, ElementsPut, ObjectOf, SingleOf, EnvelopesPut, ContentPut};
 
+use layout::laid::Laid;
 use nesting::{Level, NESTED, Step};
-use ordinals::Ordinal;
-use write_leaves::cursor::{Cursor, Wrote, passed_on, put_zeros, refused, took};
+use rules::{Fault, Refusal};
+use words::Word;
+use write_leaves::cursor::{Cursor, put_zeros, refused, took};
 use write_leaves::planned::planned;
 use write_leaves::scalars::{boolean, handle, number, numbers};
 use write_leaves::strict_rows::strict_values;
@@ -24,11 +26,7 @@ use write_records::records::{
 // as a struct it would go through memory at each level.
 #[cycle(composite_content_elements_envelopes_object_out_of_line_single_value)]
 pub fn value(
-    rows: &[u32],
-    members: &[u32],
-    entries: &[u64],
-    sizes: &[u32; 256],
-    alignments: &[u32; 256],
+    laid: &Laid<'_>,
     values: &[u64],
     out: &mut [u8],
     base: usize,
@@ -38,11 +36,12 @@ pub fn value(
     next: usize,
     handles: usize,
     index: usize,
-) -> Wrote
-    requires { Ready (type_table rows.now members.now entries.now) sizes.now alignments.now depth row
-        × Ask values.now (size_of (type_table rows.now members.now entries.now) row) at base (cursor_at next handles index) }
-    ensures { ValuePut (type_table rows.now members.now entries.now) values.now out.old out.new base depth at (cursor_at next handles index) row result }
+) -> Result<Cursor, Fault>
+    requires { Ready (table_in laid.now) laid.now.sizes.now laid.now.alignments.now depth row
+        × Ask values.now (size_of (table_in laid.now) row) at base (cursor_at next handles index) }
+    ensures { ValuePut (table_in laid.now) values.now out.old out.new base depth at (cursor_at next handles index) row result }
 {
+    let Laid { rows, entries, .. } = *laid;
     let c = Cursor {
         next,
         handles,
@@ -61,14 +60,12 @@ pub fn value(
     }
     if (kind == 4) | (kind == 7) {
         if nesting::has_parts(rows, row) {
-            return composite(
-                rows, members, entries, sizes, alignments, values, out, base, depth, row, at, c,
-            );
+            return composite(laid, values, out, base, depth, row, at, c);
         }
         // the one byte of an empty struct is fill
         if kind == 7 {
             put_zeros(out, at, 1);
-            return Wrote::On(c);
+            return Ok(c);
         }
         let width = table::a_at(rows, a as usize);
         let count = table::b_at(rows, row) as usize;
@@ -82,19 +79,13 @@ pub fn value(
     if (kind == 11) | (kind == 12) {
         return strict_values(rows, entries, values, out, row, 1, at, c);
     }
-    out_of_line(
-        rows, members, entries, sizes, alignments, values, out, base, depth, row, at, c,
-    )
+    out_of_line(laid, values, out, base, depth, row, at, c)
 }
 
 // So many values of a row, one after the other.
 #[cycle(composite_content_elements_envelopes_object_out_of_line_single_value)]
 fn elements(
-    rows: &[u32],
-    members: &[u32],
-    entries: &[u64],
-    sizes: &[u32; 256],
-    alignments: &[u32; 256],
+    laid: &Laid<'_>,
     values: &[u64],
     out: &mut [u8],
     base: usize,
@@ -103,11 +94,18 @@ fn elements(
     count: usize,
     at: usize,
     c: Cursor,
-) -> Wrote
-    requires { Ready (type_table rows.now members.now entries.now) sizes.now alignments.now depth row
-        × Ask values.now (count * size_of (type_table rows.now members.now entries.now) row) at base c }
-    ensures { ElementsPut (type_table rows.now members.now entries.now) values.now out.old out.new base depth at c row count result }
+) -> Result<Cursor, Fault>
+    requires { Ready (table_in laid.now) laid.now.sizes.now laid.now.alignments.now depth row
+        × Ask values.now (count * size_of (table_in laid.now) row) at base c }
+    ensures { ElementsPut (table_in laid.now) values.now out.old out.new base depth at c row count result }
 {
+    let Laid {
+        rows,
+        members,
+        entries,
+        sizes,
+        alignments,
+    } = *laid;
     let kind = table::kind_at(rows, row);
     if kind == 2 {
         let width = table::a_at(rows, row);
@@ -116,40 +114,25 @@ fn elements(
     if (kind == 11) | (kind == 12) {
         return strict_values(rows, entries, values, out, row, count, at, c);
     }
-    let size = words::number_at(sizes, row) as usize;
-    let plan = plans::plan_of(rows, members, alignments, row);
-    if 0 < plan.count {
-        return planned(values, out, plan, size, count, at, c);
+    let size = words::item_at(sizes, row) as usize;
+    if let Some(plan) = plans::plan_of(rows, members, alignments, row) {
+        return planned(values, out, plan.parts(), size, count, at, c);
     }
     let mut d = c;
     let mut place = at;
-    let mut left = count;
-    while 0 < left {
-        match value(
-            rows, members, entries, sizes, alignments, values, out, base, depth, row, place,
-            d.next, d.handles, d.index,
-        ) {
-            Wrote::On(e) => {
-                d = e;
-            }
-            Wrote::Refused(f) => {
-                return Wrote::Refused(f);
-            }
-        }
+    for _ in 0..count {
+        d = value(
+            laid, values, out, base, depth, row, place, d.next, d.handles, d.index,
+        )?;
         place += size;
-        left -= 1;
     }
-    Wrote::On(d)
+    Ok(d)
 }
 
 // A struct's members or an array's elements in turn, with the fill after each member.
 #[cycle(composite_content_elements_envelopes_object_out_of_line_single_value)]
 fn composite(
-    rows: &[u32],
-    members: &[u32],
-    entries: &[u64],
-    sizes: &[u32; 256],
-    alignments: &[u32; 256],
+    laid: &Laid<'_>,
     values: &[u64],
     out: &mut [u8],
     base: usize,
@@ -157,19 +140,25 @@ fn composite(
     row: usize,
     at: usize,
     c: Cursor,
-) -> Wrote
-    requires { Ready (type_table rows.now members.now entries.now) sizes.now alignments.now depth row × (has_parts rows.now row ≡ true)
-        × Ask values.now (size_of (type_table rows.now members.now entries.now) row) at base c }
-    ensures { ValuePut (type_table rows.now members.now entries.now) values.now out.old out.new base depth at c row result }
+) -> Result<Cursor, Fault>
+    requires { Ready (table_in laid.now) laid.now.sizes.now laid.now.alignments.now depth row × (has_parts laid.now.rows.now row ≡ true)
+        × Ask values.now (size_of (table_in laid.now) row) at base c }
+    ensures { ValuePut (table_in laid.now) values.now out.old out.new base depth at c row result }
 {
+    let Laid {
+        rows,
+        members,
+        sizes,
+        alignments,
+        ..
+    } = *laid;
     // one of bools and numbers alone goes by a plan, which can be only where its first member is one of them
     let first = table::a_at(rows, row) as usize;
     let part = table::row_of(members, first) as usize;
     if table::kind_at(rows, part) <= 2 {
-        let plan = plans::plan_of(rows, members, alignments, row);
-        if 0 < plan.count {
-            let size = words::number_at(sizes, row) as usize;
-            return planned(values, out, plan, size, 1, at, c);
+        if let Some(plan) = plans::plan_of(rows, members, alignments, row) {
+            let size = words::item_at(sizes, row) as usize;
+            return planned(values, out, plan.parts(), size, 1, at, c);
         }
     }
     let mut kept = [Level {
@@ -200,19 +189,11 @@ fn composite(
                 };
             }
             Step::Call(part) => {
-                match value(
-                    rows, members, entries, sizes, alignments, values, out, base, depth, part,
-                    place, d.next, d.handles, d.index,
-                ) {
-                    Wrote::On(e) => {
-                        d = e;
-                        place += words::number_at(sizes, part) as usize;
-                        due = true;
-                    }
-                    Wrote::Refused(f) => {
-                        return Wrote::Refused(f);
-                    }
-                }
+                d = value(
+                    laid, values, out, base, depth, part, place, d.next, d.handles, d.index,
+                )?;
+                place += words::item_at(sizes, part) as usize;
+                due = true;
             }
             Step::Out => {
                 around -= 1;
@@ -220,7 +201,7 @@ fn composite(
                 due = true;
             }
             Step::Done => {
-                return Wrote::On(d);
+                return Ok(d);
             }
         }
     }
@@ -230,59 +211,48 @@ fn composite(
 // object's own offset on.
 #[cycle(composite_content_elements_envelopes_object_out_of_line_single_value)]
 fn object(
-    rows: &[u32],
-    members: &[u32],
-    entries: &[u64],
-    sizes: &[u32; 256],
-    alignments: &[u32; 256],
+    laid: &Laid<'_>,
     values: &[u64],
     out: &mut [u8],
     base: usize,
     depth: usize,
     row: usize,
     x: Opening,
-) -> Wrote
-    requires { Ready (type_table rows.now members.now entries.now) sizes.now alignments.now depth row
-        × Claimed values.now (x.count * size_of (type_table rows.now members.now entries.now) row) base x }
-    ensures { ObjectOf (type_table rows.now members.now entries.now) values.now out.old out.new base depth x row result }
+) -> Result<Cursor, Fault>
+    requires { Ready (table_in laid.now) laid.now.sizes.now laid.now.alignments.now depth row
+        × Claimed values.now (x.count * size_of (table_in laid.now) row) base x }
+    ensures { ObjectOf (table_in laid.now) values.now out.old out.new base depth x row result }
 {
+    let Laid { sizes, .. } = *laid;
     let from = rest_from(base, x.start, out.len());
     let rest = &mut out[from..];
     let wrote = elements(
-        rows, members, entries, sizes, alignments, values, rest, x.start, depth, row, x.count, 0,
-        x.cursor,
+        laid, values, rest, x.start, depth, row, x.count, 0, x.cursor,
     );
-    fill_up(rest, x.count * words::number_at(sizes, row) as usize);
+    fill_up(rest, x.count * words::item_at(sizes, row) as usize);
     wrote
 }
 
 // An object of one value, in the same way.
 #[cycle(composite_content_elements_envelopes_object_out_of_line_single_value)]
 fn single(
-    rows: &[u32],
-    members: &[u32],
-    entries: &[u64],
-    sizes: &[u32; 256],
-    alignments: &[u32; 256],
+    laid: &Laid<'_>,
     values: &[u64],
     out: &mut [u8],
     base: usize,
     depth: usize,
     row: usize,
     x: Opening,
-) -> Wrote
-    requires { Ready (type_table rows.now members.now entries.now) sizes.now alignments.now depth row
-        × Claimed values.now (size_of (type_table rows.now members.now entries.now) row) base x }
-    ensures { SingleOf (type_table rows.now members.now entries.now) values.now out.old out.new base depth x row result }
+) -> Result<Cursor, Fault>
+    requires { Ready (table_in laid.now) laid.now.sizes.now laid.now.alignments.now depth row
+        × Claimed values.now (size_of (table_in laid.now) row) base x }
+    ensures { SingleOf (table_in laid.now) values.now out.old out.new base depth x row result }
 {
+    let Laid { sizes, .. } = *laid;
     let from = rest_from(base, x.start, out.len());
     let rest = &mut out[from..];
     let wrote = value(
-        rows,
-        members,
-        entries,
-        sizes,
-        alignments,
+        laid,
         values,
         rest,
         x.start,
@@ -293,18 +263,14 @@ fn single(
         x.cursor.handles,
         x.cursor.index,
     );
-    fill_up(rest, words::number_at(sizes, row) as usize);
-    passed_on(wrote)
+    fill_up(rest, words::item_at(sizes, row) as usize);
+    wrote
 }
 
 // A value whose record leads out of line: vector, box, table or union.
 #[cycle(composite_content_elements_envelopes_object_out_of_line_single_value)]
 fn out_of_line(
-    rows: &[u32],
-    members: &[u32],
-    entries: &[u64],
-    sizes: &[u32; 256],
-    alignments: &[u32; 256],
+    laid: &Laid<'_>,
     values: &[u64],
     out: &mut [u8],
     base: usize,
@@ -312,67 +278,42 @@ fn out_of_line(
     row: usize,
     at: usize,
     c: Cursor,
-) -> Wrote
-    requires { Ready (type_table rows.now members.now entries.now) sizes.now alignments.now depth row × Outside (kind_at (type_table rows.now members.now entries.now) row)
-        × Ask values.now (size_of (type_table rows.now members.now entries.now) row) at base c }
-    ensures { ValuePut (type_table rows.now members.now entries.now) values.now out.old out.new base depth at c row result }
+) -> Result<Cursor, Fault>
+    requires { Ready (table_in laid.now) laid.now.sizes.now laid.now.alignments.now depth row × Outside (kind_at (table_in laid.now) row)
+        × Ask values.now (size_of (table_in laid.now) row) at base c }
+    ensures { ValuePut (table_in laid.now) values.now out.old out.new base depth at c row result }
 {
+    let Laid {
+        rows,
+        members,
+        sizes,
+        ..
+    } = *laid;
     let kind = table::kind_at(rows, row);
     let a = table::a_at(rows, row) as usize;
     let b = table::b_at(rows, row);
     let form = table::c_at(rows, row);
     if kind == 5 {
-        let size = words::number_at(sizes, a) as usize;
-        return match vector_opened(values, out, depth, size, b, form, at, c) {
-            Opened::Closed(d) => Wrote::On(d),
-            Opened::Refused(f) => Wrote::Refused(f),
-            Opened::Open(x) => passed_on(object(
-                rows,
-                members,
-                entries,
-                sizes,
-                alignments,
-                values,
-                out,
-                base,
-                depth - 1,
-                a,
-                x,
-            )),
+        let size = words::item_at(sizes, a) as usize;
+        return match vector_opened(values, out, depth, size, b, form, at, c)? {
+            Opened::Closed(d) => Ok(d),
+            Opened::Open(x) => object(laid, values, out, base, depth - 1, a, x),
         };
     }
     if kind == 8 {
-        let size = words::number_at(sizes, a) as usize;
-        return match box_opened(values, out, depth, size, at, c) {
-            Opened::Closed(d) => Wrote::On(d),
-            Opened::Refused(f) => Wrote::Refused(f),
-            Opened::Open(x) => passed_on(single(
-                rows,
-                members,
-                entries,
-                sizes,
-                alignments,
-                values,
-                out,
-                base,
-                depth - 1,
-                a,
-                x,
-            )),
+        let size = words::item_at(sizes, a) as usize;
+        return match box_opened(values, out, depth, size, at, c)? {
+            Opened::Closed(d) => Ok(d),
+            Opened::Open(x) => single(laid, values, out, base, depth - 1, a, x),
         };
     }
     if kind == 9 {
-        return match table_opened(values, out, depth, at, c) {
-            Opened::Closed(d) => Wrote::On(d),
-            Opened::Refused(f) => Wrote::Refused(f),
+        return match table_opened(values, out, depth, at, c)? {
+            Opened::Closed(d) => Ok(d),
             Opened::Open(x) => {
                 let from = rest_from(base, x.start, out.len());
-                passed_on(envelopes(
-                    rows,
-                    members,
-                    entries,
-                    sizes,
-                    alignments,
+                envelopes(
+                    laid,
                     values,
                     &mut out[from..],
                     x.start,
@@ -380,38 +321,20 @@ fn out_of_line(
                     row,
                     x.count,
                     x.cursor,
-                ))
+                )
             }
         };
     }
-    match union_member(members, values, out, a, b as usize, form, at, c) {
-        Member::None(d) => Wrote::On(d),
-        Member::Bad(f) => Wrote::Refused(f),
-        Member::Some(what, d) => passed_on(content(
-            rows,
-            members,
-            entries,
-            sizes,
-            alignments,
-            values,
-            out,
-            base,
-            depth,
-            what,
-            at + 8,
-            d,
-        )),
+    match union_member(members, values, out, a, b as usize, form, at, c)? {
+        Member::Absent(d) => Ok(d),
+        Member::Present(what, d) => content(laid, values, out, base, depth, what, at + 8, d),
     }
 }
 
 // A table's envelopes in turn, at the start of the output: for each a number, 0 or 1 (26, also for a 0 at the last one).
 #[cycle(composite_content_elements_envelopes_object_out_of_line_single_value)]
 fn envelopes(
-    rows: &[u32],
-    members: &[u32],
-    entries: &[u64],
-    sizes: &[u32; 256],
-    alignments: &[u32; 256],
+    laid: &Laid<'_>,
     values: &[u64],
     out: &mut [u8],
     base: usize,
@@ -419,123 +342,79 @@ fn envelopes(
     row: usize,
     count: usize,
     c: Cursor,
-) -> Wrote
-    requires { Ready (type_table rows.now members.now entries.now) sizes.now alignments.now depth row × (kind_at (type_table rows.now members.now entries.now) row ≡ 9)
+) -> Result<Cursor, Fault>
+    requires { Ready (table_in laid.now) laid.now.sizes.now laid.now.alignments.now depth row × (kind_at (table_in laid.now) row ≡ 9)
         × Ask values.now (count * 8) 0 base c }
-    ensures { EnvelopesPut (type_table rows.now members.now entries.now) values.now out.old out.new base depth c row count result }
+    ensures { EnvelopesPut (table_in laid.now) values.now out.old out.new base depth c row count result }
 {
+    let Laid { rows, members, .. } = *laid;
     let first = table::a_at(rows, row) as usize;
     let known = table::b_at(rows, row) as usize;
     let mut d = c;
-    let mut i: usize = 0;
-    while i < count {
+    for i in 0..count {
         let place = i * 8;
-        i += 1;
+        let ordinal = i + 1;
         if values.len() <= d.index {
-            return refused(26, d.index);
+            return refused(Refusal::NotAValue, d.index);
         }
-        let v = words::value_at(values, d.index);
-        if (1 < v) | (v == 0) & (i == count) {
-            return refused(26, d.index);
+        let v = words::item_at(values, d.index);
+        if (1 < v) | (v == 0) & (ordinal == count) {
+            return refused(Refusal::NotAValue, d.index);
         }
-        let e = took(d);
+        d = took(d);
         if v == 0 {
-            words::store64(out, place, 0);
-            d = e;
+            u64::store(out, place, 0);
         } else {
-            let what = ordinals::ordinal_of(members, first, known, i as u64);
-            match content(
-                rows, members, entries, sizes, alignments, values, out, base, depth, what, place, e,
-            ) {
-                Wrote::On(f) => {
-                    d = f;
-                }
-                Wrote::Refused(f) => {
-                    return Wrote::Refused(f);
-                }
-            }
+            let what = ordinals::ordinal_of(members, first, known, ordinal as u64);
+            d = content(laid, values, out, base, depth, what, place, d)?;
         }
     }
-    Wrote::On(d)
+    Ok(d)
 }
 
 // An envelope's content, after the number that says there is some: a known payload one level down, or unknown content.
 #[cycle(composite_content_elements_envelopes_object_out_of_line_single_value)]
 fn content(
-    rows: &[u32],
-    members: &[u32],
-    entries: &[u64],
-    sizes: &[u32; 256],
-    alignments: &[u32; 256],
+    laid: &Laid<'_>,
     values: &[u64],
     out: &mut [u8],
     base: usize,
     depth: usize,
-    what: Ordinal,
+    what: Option<usize>,
     at: usize,
     c: Cursor,
-) -> Wrote
-    requires { PayloadReady (type_table rows.now members.now entries.now) sizes.now alignments.now depth what
+) -> Result<Cursor, Fault>
+    requires { PayloadReady (table_in laid.now) laid.now.sizes.now laid.now.alignments.now depth what
         × Ask values.now 8 at base c × (0 < c.index) }
-    ensures { ContentPut (type_table rows.now members.now entries.now) values.now out.old out.new base depth at c what result }
+    ensures { ContentPut (table_in laid.now) values.now out.old out.new base depth at c what result }
 {
-    match what {
-        Ordinal::Unknown => unknown_content(values, out, base, depth, at, c),
-        Ordinal::Known(payload) => {
-            let size = words::number_at(sizes, payload) as usize;
-            if size <= 4 {
-                if depth == 0 {
-                    return refused(5, c.index - 1);
-                }
-                return match value(
-                    rows,
-                    members,
-                    entries,
-                    sizes,
-                    alignments,
-                    values,
-                    out,
-                    base,
-                    depth - 1,
-                    payload,
-                    at,
-                    c.next,
-                    c.handles,
-                    c.index,
-                ) {
-                    Wrote::Refused(f) => Wrote::Refused(f),
-                    Wrote::On(d) => {
-                        sealed(out, size, at, 0, (d.handles - c.handles) as u16);
-                        Wrote::On(d)
-                    }
-                };
-            }
-            match deeper(depth, 1, size, c) {
-                Opened::Closed(d) => Wrote::On(d),
-                Opened::Refused(f) => Wrote::Refused(f),
-                Opened::Open(x) => {
-                    match single(
-                        rows,
-                        members,
-                        entries,
-                        sizes,
-                        alignments,
-                        values,
-                        out,
-                        base,
-                        depth - 1,
-                        payload,
-                        x,
-                    ) {
-                        Wrote::Refused(f) => Wrote::Refused(f),
-                        Wrote::On(d) => {
-                            let bytes = d.next - c.next;
-                            sealed(out, size, at, bytes as u32, (d.handles - c.handles) as u16);
-                            Wrote::On(d)
-                        }
-                    }
-                }
-            }
+    let Laid { sizes, .. } = *laid;
+    let Some(payload) = what else {
+        return unknown_content(values, out, base, depth, at, c);
+    };
+    let size = words::item_at(sizes, payload) as usize;
+    if size <= 4 {
+        if depth == 0 {
+            return refused(Refusal::TooDeep, c.index - 1);
         }
+        let d = value(
+            laid,
+            values,
+            out,
+            base,
+            depth - 1,
+            payload,
+            at,
+            c.next,
+            c.handles,
+            c.index,
+        )?;
+        sealed(out, size, at, 0, (d.handles - c.handles) as u16);
+        return Ok(d);
     }
+    let x = deeper(depth, 1, size, c)?;
+    let d = single(laid, values, out, base, depth - 1, payload, x)?;
+    let bytes = d.next - c.next;
+    sealed(out, size, at, bytes as u32, (d.handles - c.handles) as u16);
+    Ok(d)
 }

@@ -1,5 +1,6 @@
 -- What the writer answers, and what it leaves in the output lent: 1, 2, the walk's refusals, 22.
 -- Assumes nothing.
+use Rattle.std.specs.Prelude.{Err, Ok, Result}
 use mathlib.Core.Path.{◌≡◌, refl, sym, ap, ◌∙◌}
 use mathlib.Core.Bool.{Bool, true, false}
 use mathlib.Core.List.{List, ◌++◌, append-nil}
@@ -13,21 +14,16 @@ use Rattle.rules.specs.Refusals.{fault, root_not_allowed, room_too_small, Answer
 use Rattle.rules.specs.TypeTable.{TypeTable, eight_byte_envelopes, type_table}
 use Rattle.rules.specs.Sound.{soundness, root_allowed}
 use Rattle.rules.specs.Answers as Rules
-use Rattle.rules.specs.Answers.{encode, closed, written, write, require_room, output_after, numbers_of, sized}
+use Rattle.rules.specs.Answers.{encode, closed, written, write, require_room, output_after, numbers_of, sized, answer_of, result_numbers}
 use Rattle.rules.proofs.Rooms.{room_short, room_enough, stored_list}
-use Rattle.layout.specs.declared.Soundness.{Soundness}
-use Rattle.layout.specs.declared.Soundness.TheVariants as Table
-use Rattle.layout.specs.Answers as Layout
 use Rattle.layout.specs.Answers.{RootIs, kept_sizes, kept_alignments, given_if_sound}
 use Rattle.layout.proofs.Keeping.{given_sound}
 use Rattle.layout.proofs.Roots.{root_in_use}
 use Rattle.layout.specs.Ready.{Ready}
 use Rattle.writer.specs.declared.Sizes.{Sizes}
-use Rattle.writer.specs.declared.Written.{Written}
-use Rattle.writer.specs.declared.Written.TheVariants.{Accepted, Refused}
-use Rattle.writer.specs.Answers.{written_of, written_numbers, sizes_of}
+use Rattle.writer.specs.Answers.{told, sizes_of}
 use Rattle.writer.specs.Passing.{Passed}
-use Rattle.writer.proofs.Numbers.{written_numbers_lem}
+use Rattle.writer.proofs.Numbers.{written_numbers}
 
 -- ---- measured
 
@@ -36,12 +32,12 @@ module _ (t : TypeTable) (values : List ℕ) (root : ℕ) where
   abbrev pub Measures : Answer Sizes → Type 0
   Measures answer = answer ≡ sizes_of (written t root values)
 
-module _ (rows members entries values : List ℕ) (root : ℕ) (verdict : Soundness) (judged : Layout.verdict_of verdict ≡ soundness (type_table rows members entries)) where
-  pub table_refused : {f : Fault} → verdict ≡ Table.Refused f → Measures (type_table rows members entries) values root (refused f)
+module _ (rows members entries values : List ℕ) (root : ℕ) (verdict : Result (Unit {0}) Fault) (judged : answer_of verdict ≡ soundness (type_table rows members entries)) where
+  pub table_refused : {f : Fault} → verdict ≡ Err f → Measures (type_table rows members entries) values root (refused f)
   unfolding written
   table_refused e = rw (← judged, e)
 
-  module _ (e : verdict ≡ Table.Sound) {allowed : Bool} (read : RootIs rows root allowed) where
+  module _ (e : verdict ≡ (Ok tt)) {allowed : Bool} (read : RootIs rows root allowed) where
     sound : soundness (type_table rows members entries) ≡ accepted tt
     sound = sym judged ∙ rw e
 
@@ -65,7 +61,7 @@ module _ (rows members entries values : List ℕ) (root : ℕ) (verdict : Soundn
             in_use = root_in_use t root (sym (read t refl) ∙ q);
           }
 
-      pub measured : {out out' : List ℕ} {r : Written} → Passed (type_table rows members entries) values root out out' r → Measures (type_table rows members entries) values root (written_of r)
+      pub measured : {out out' : List ℕ} {r : Result Sizes Fault} → Passed (type_table rows members entries) values root out out' r → Measures (type_table rows members entries) values root (answer_of r)
       unfolding written
       measured p = p.answers ∙ rw (sound, ← read (type_table rows members entries) refl, q)
 
@@ -95,28 +91,28 @@ pub lent_long : (count : ℕ) (out : List ℕ) → count ≤ length out → coun
 lent_long count out fits = sym (length-take-le count out fits)
 
 -- What is answered, and what the output holds after.
-abbrev pub Gives : (given : Answer Rules.Written) (lent : List ℕ) → Written → (after : List ℕ) → Type 0
-Gives given lent r after = record { answer : written_of r ≡ sizes_of given; output : after ≡ output_after given lent; numbers : written_numbers r ≡ numbers_of 2 sized given }
+abbrev pub Gives : (given : Answer Rules.Written) (lent : List ℕ) → Result Sizes Fault → (after : List ℕ) → Type 0
+Gives given lent r after = record { answer : answer_of r ≡ sizes_of given; output : after ≡ output_after given lent; numbers : result_numbers 2 told r ≡ numbers_of 2 sized given }
 
-gives : (given : Answer Rules.Written) (lent : List ℕ) (r : Written) {after : List ℕ} → written_of r ≡ sizes_of given → after ≡ output_after given lent → Gives given lent r after
-gives given lent r e left = record { answer = e; output = left; numbers = written_numbers_lem r given e }
+gives : (given : Answer Rules.Written) (lent : List ℕ) (r : Result Sizes Fault) {after : List ℕ} → answer_of r ≡ sizes_of given → after ≡ output_after given lent → Gives given lent r after
+gives given lent r e left = record { answer = e; output = left; numbers = written_numbers r given e }
 
-gives_nothing : {given : Answer Rules.Written} {f : Fault} (lent : List ℕ) → given ≡ refused f → Gives given lent (Refused f) lent
-gives_nothing {given} {f} lent e = gives given lent (Refused f) (rw e) (rw e)
+gives_nothing : {given : Answer Rules.Written} {f : Fault} (lent : List ℕ) → given ≡ refused f → Gives given lent (Err f) lent
+gives_nothing {given} {f} lent e = gives given lent (Err f) (rw e) (rw e)
 
-module _ (t : TypeTable) (values : List ℕ) (root : ℕ) (a : Written) (j : Measures t values root (written_of a)) where
-  pub write_refused : {f : Fault} (out : List ℕ) → a ≡ Refused f → Gives (write t root values (length out)) out (Refused f) out
+module _ (t : TypeTable) (values : List ℕ) (root : ℕ) (a : Result Sizes Fault) (j : Measures t values root (answer_of a)) where
+  pub write_refused : {f : Fault} (out : List ℕ) → a ≡ Err f → Gives (write t root values (length out)) out (Err f) out
   unfolding write
-  write_refused {f} out e = go (written t root values) (sym (ap written_of e) ∙ j)
+  write_refused {f} out e = go (written t root values) (sym (ap answer_of e) ∙ j)
     where
       go : (w : Answer Rules.Written) → refused f ≡ sizes_of w
-          → Gives (and_then w (λ m. require_room (length m.bytes) (length out) (accepted m))) out (Refused f) out
+          → Gives (and_then w (λ m. require_room (length m.bytes) (length out) (accepted m))) out (Err f) out
       go (accepted m) q = absurd (let z : ◌≡◌ {A = ℕ} 0 1 = cc in omega arith)
-      go (refused g) q = gives (refused g) out (Refused f) q refl
+      go (refused g) q = gives (refused g) out (Err f) q refl
 
-  module _ {needed : Sizes} (e : a ≡ Accepted needed) where
+  module _ {needed : Sizes} (e : a ≡ Ok needed) where
     as_held : Held t root values needed
-    as_held = go (written t root values) refl (sym (ap written_of e) ∙ j)
+    as_held = go (written t root values) refl (sym (ap answer_of e) ∙ j)
       where
         go : (w : Answer Rules.Written) → written t root values ≡ w → accepted needed ≡ sizes_of w → Held t root values needed
         go (accepted m) y z = record { message = m; held = y; sizes = cc }
@@ -145,11 +141,11 @@ module _ (t : TypeTable) (values : List ℕ) (root : ℕ) (a : Written) (j : Mea
 
     -- 22
     pub write_room : (out : List ℕ) → length out < needed.bytes
-        → Gives (write t root values (length out)) out (Refused (fault room_too_small (Amount needed.bytes))) out
+        → Gives (write t root values (length out)) out (Err (fault room_too_small (Amount needed.bytes))) out
     write_room out short = gives_nothing out (write_of (length out) ∙ room_short (length out) _ as_long short)
 
     -- The part of the output that is lent holds the message and nothing more.
-    part_stored : (out : List ℕ) {part : List ℕ} {r : Written} → Passed t values root (take needed.bytes out) part r → needed.bytes ≤ length out
+    part_stored : (out : List ℕ) {part : List ℕ} {r : Result Sizes Fault} → Passed t values root (take needed.bytes out) part r → needed.bytes ≤ length out
         → part ≡ as_held.message.bytes
     part_stored out p room =
         let bytes = as_held.message.bytes in
@@ -159,9 +155,9 @@ module _ (t : TypeTable) (values : List ℕ) (root : ℕ) (a : Written) (j : Mea
         ∙ stored_list bytes (take needed.bytes out) (omega (arith, as_long, long))
         ∙ rw (drop_of_length-le (take needed.bytes out) none_left, append-nil)
 
-    pub write_stored : (out : List ℕ) {part : List ℕ} {r : Written} → Passed t values root (take needed.bytes out) part r → needed.bytes ≤ length out
-        → Gives (write t root values (length out)) out (Accepted needed) (part ++ drop needed.bytes out)
-    write_stored out p room =
+    pub write_stored : (out : List ℕ) {part : List ℕ} {r : Result Sizes Fault} → Passed t values root (take needed.bytes out) part r → needed.bytes ≤ length out
+        → Gives (write t root values (length out)) out r (part ++ drop needed.bytes out)
+    write_stored out {r = r} p room =
         let given = write_of (length out) ∙ room_enough (length out) _ as_long room in
-        gives (write t root values (length out)) out (Accepted needed) (rw given (ap accepted as_held.sizes))
+        gives (write t root values (length out)) out r (rw given (rw (held_closed t root values as_held.held).2 at p.answers))
         (rw (given, part_stored out p room) (ap (λ (n : ℕ). as_held.message.bytes ++ drop n out) as_long))

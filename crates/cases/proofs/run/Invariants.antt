@@ -1,13 +1,9 @@
--- `cases::run` is safe and ends. The loop's invariant: the room for numbers keeps its length, and no more lines are counted
--- than there are bytes. The measure is what is left of the text.
-use mathlib.Core.Path.{◌≡◌}
-use Prim.Native.Nat.{◌-◌, ◌≤◌}
-use lib.ListN.{length}
+-- `cases::run` is safe and ends: each turn leaves less text, and no more lines are counted than there were bytes.
+use Rattle.std.proofs.Common.{◌+◌, ◌≤◌, length}
 use Rattle.cases.proofs.run.Given as goal
 
-abbrev pub invariant-loop-at : goal.invariant-loop-at
-invariant-loop-at g l =
-    (16384 ≡ length l.numbers) × (l.failures ≤ l.line) × (l.line ≤ l.at) × (l.at ≤ length l.text)
+abbrev pub invariant-loop-rest : goal.invariant-loop-rest
+invariant-loop-rest g l = (l.failures ≤ l.line) × (l.line + length l.rest ≤ length l.text)
 
-abbrev pub decreases-loop-at : goal.decreases-loop-at
-decreases-loop-at g l = length l.text - l.at
+abbrev pub decreases-loop-rest : goal.decreases-loop-rest
+decreases-loop-rest g l = length l.rest

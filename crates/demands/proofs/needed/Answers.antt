@@ -5,11 +5,11 @@ use Rattle.demands.proofs.needed.Goals as goal
 
 pub returns-then-room-count : goal.returns-then-room-count
 returns-then-room-count c =
-    needs_values _ _ c.requires c.read_values.result c.read_values.ensures.answer c.args.room c.in-Refused.is c.place_number-count.ensures (omega arith)
+    needs_values _ _ c.requires c.read_values.result c.read_values.ensures.answer c.args.room c.in-Err.is c.place_number-count.ensures (omega arith)
 
 pub returns-else-room-count : goal.returns-else-room-count
 returns-else-room-count c =
-    needs_bytes _ _ c.requires c.read_values.result c.read_values.ensures.answer c.args.room c.in-Refused.is c.place_number-count.ensures (omega arith)
+    needs_bytes _ _ c.requires c.read_values.result c.read_values.ensures.answer c.args.room c.in-Err.is c.place_number-count.ensures (omega arith)
 
 pub returns-in_default : goal.returns-in_default
 returns-in_default c =

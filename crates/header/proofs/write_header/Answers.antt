@@ -1,17 +1,16 @@
--- `header::write_header` meets its contract: the tests are those of `write_header`, in their order, and nothing is stored before the last.
-use native.Mathlib.Omega.{arith}
-use Rattle.header.proofs.Writing.{ordinal_refused, room_refused, header_written}
+-- `header::write_header` meets its contract: what it stores are the header's bytes.
+use Rattle.std.proofs.Common.{◌≡◌, length, arith}
+use Rattle.std.proofs.lemmas.Grind.{common_steps}
+use Rattle.rules.specs.Refusals.{accepted}
+use Rattle.rules.specs.Header.{write_header, header_bytes}
+use Rattle.rules.specs.Bytes.{bytes_of}
+use Rattle.header.specs.Meaning.{header_of}
+use Rattle.header.proofs.Writing.{stored_lent}
 use Rattle.header.proofs.write_header.Goals as goal
 
-pub returns-then-out-lt16 : goal.returns-then-out-lt16
-returns-then-out-lt16 c =
-    room_refused _ _ _ c.judge_ordinal-judged.ensures c.in-Allowed.is (omega (arith, c.if-out-lt16.true))
-    c.no_room.ensures
-
-pub returns-in-Refused : goal.returns-in-Refused
-returns-in-Refused c = ordinal_refused _ _ _ c.judge_ordinal-judged.ensures c.in-Refused.is
-
-pub returns-else-out-lt16 : goal.returns-else-out-lt16
-returns-else-out-lt16 c =
-    header_written _ _ _ c.judge_ordinal-judged.ensures c.in-Allowed.is (omega (arith, c.if-out-lt16.false))
-    c.store_header.ensures
+pub returns-clause-output : goal.returns-clause-output
+unfolding write_header bytes_of
+returns-clause-output c =
+    let bytes = header_bytes (header_of c.args.header) in
+    let written : write_header (header_of c.args.header) (length c.args.out.now) ≡ accepted bytes = grind (arith, common_steps) in
+    stored_lent bytes c.args.out.now written (omega arith) c.store_header.ensures

@@ -1,21 +1,18 @@
--- `words::zeros_from` meets its contract. The loop's invariant: what is counted so far, with what the rest begins with, is the whole count.
-use Rattle.std.proofs.Common.{arith}
-use Rattle.words.proofs.Fill.{counted_none, counted_zero, counted_other, counted_past, counted_all}
+-- `words::zeros_from` meets its contract.
+use Rattle.std.proofs.Common.{◌≡◌, ◌∙◌, take, drop, nat_eq, tests, rules}
+use Rattle.std.proofs.lemmas.Iterator.{YieldsList-from_slice, YieldsList-from_take}
+use Rattle.std.proofs.lemmas.Iterator.Search.{YieldsList-from_take_while}
+use Rattle.std.proofs.lemmas.Iterator.Consumers.{count_from_yields_List}
+use Rattle.std.proofs.lemmas.List.{take_rest}
+use Rattle.std.proofs.lemmas.List.Folds.{length-prefix_len}
+use Rattle.rules.specs.Bytes.{part}
+use Rattle.words.proofs.Fill.{zeros_counted}
 use Rattle.words.proofs.zeros_from.Goals as goal
 
-pub loop-zeros-init : goal.loop-zeros-init
-loop-zeros-init c = (omega arith, counted_none _ _ _)
-
-pub returns-then-bytes-here : goal.returns-then-bytes-here
-returns-then-bytes-here c = counted_past _ _ _ _ c.loop-zeros.invariant.1 c.if-bytes-here.true
-
-pub returns-then-bytes-here-ne0 : goal.returns-then-bytes-here-ne0
-returns-then-bytes-here-ne0 c =
-    counted_other _ _ _ _ c.loop-zeros.invariant.1 c.loop-zeros-test.true c.if-bytes-here.false c.if-bytes-here-ne0.true
-
-pub loop-zeros-preserved : goal.loop-zeros-preserved
-loop-zeros-preserved c =
-    (omega arith, counted_zero _ _ _ _ c.loop-zeros.invariant.1 c.loop-zeros-test.true c.if-bytes-here.false c.if-bytes-here-ne0.false)
-
 pub returns : goal.returns
-returns c = counted_all _ _ _ _ c.loop-zeros.invariant.1 c.loop-zeros-test.false
+unfolding part
+returns c =
+    let rest : c.in-Some.rest.now ≡ drop c.args.at c.args.bytes.now = c.in-Some.ensures.lookup.0.2 ∙ take_rest c.args.bytes.now c.args.at in
+    count_from_yields_List c.take_while.result _ c.count.ensures.ran (YieldsList-from_take_while _ (λ b. nat_eq b 0) (YieldsList-from_take c.args.count (YieldsList-from_slice c.in-Some.rest.now (cc)) (cc)) c.take_while.ensures.closure c.take_while.ensures.done (λ x b q k. search (rules, tests)))
+    ∙ length-prefix_len (λ b. nat_eq b 0) (take c.args.count c.in-Some.rest.now)
+    ∙ rw (zeros_counted, rest)

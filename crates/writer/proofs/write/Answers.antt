@@ -2,24 +2,25 @@
 use mathlib.Core.Path.{refl}
 use native.Mathlib.Omega.{arith}
 use borrow.Author.Rules.{rules}
+use Rattle.rules.proofs.Passing.{err_passed}
 use Rattle.writer.proofs.Lent.{lent_long, again_ready, write_refused, write_room, write_stored}
 use Rattle.writer.proofs.write.Goals as goal
 
 pub returns-then-out-needed : goal.returns-then-out-needed
 returns-then-out-needed c =
-    write_room _ _ _ _ c.measure.ensures.answer c.in-Accepted.is _ (omega (arith, c.if-out-needed.true))
+    rw c.at.ensures (write_room _ _ _ _ c.measure.ensures.answer c.in_ok-needed.was _ (omega (arith, c.if-out-needed.true)))
 
-pub slice_bounds-pass-end-in-Accepted : goal.slice_bounds-pass-end-in-Accepted
-slice_bounds-pass-end-in-Accepted c = search (rules, lent_long)
+pub slice_bounds-pass-end : goal.slice_bounds-pass-end
+slice_bounds-pass-end c = search (rules, lent_long)
 
 pub pass-requires : goal.pass-requires
 pass-requires c =
     let measured = c.measure in
-    again_ready _ _ _ _ measured.ensures.answer c.in-Accepted.is _ _ refl measured.ensures.sizes measured.ensures.alignments
+    again_ready _ _ _ _ measured.ensures.answer c.in_ok-needed.was _ _ refl measured.ensures.sizes measured.ensures.alignments
 
-pub returns-in-Refused : goal.returns-in-Refused
-returns-in-Refused c = write_refused _ _ _ _ c.measure.ensures.answer _ c.in-Refused.is
+pub returns-in_err-needed : goal.returns-in_err-needed
+returns-in_err-needed c = rw (err_passed c.from_residual.ensures.1) (write_refused _ _ _ _ c.measure.ensures.answer _ c.in_err-needed.was)
 
-pub returns-else-out-needed : goal.returns-else-out-needed
-returns-else-out-needed c =
-    write_stored _ _ _ _ c.measure.ensures.answer c.in-Accepted.is _ c.pass.ensures (omega (arith, c.if-out-needed.false))
+pub returns : goal.returns
+returns c =
+    write_stored _ _ _ _ c.measure.ensures.answer c.in_ok-needed.was _ c.pass.ensures (omega (arith, c.if-out-needed.false))

@@ -1,7 +1,7 @@
 -- The proof of the cycle of calls of layouts: a row that is not kept is made of rows that its kind names, and those have smaller
 -- numbers.
 use mathlib.Core.Path.{◌≡◌, refl, sym, ◌∙◌}
-use Prim.Native.Nat.{◌<◌}
+use Prim.Native.Nat.{◌+◌, ◌-◌, ◌<◌}
 use native.Mathlib.Omega.{arith}
 use Rattle.rules.specs.TypeTable.{type_table, kind_at, a_at, b_at}
 use Rattle.rules.specs.Sizes.{layout_below}
@@ -41,33 +41,44 @@ row_layout-returns-in_default t c =
     (c.fixed_layout.ensures y refl (layout_below y c.args.row))
 
 -- An empty struct.
-pub struct_layout-returns-then-left-eq0 : goal.struct_layout-returns-then-left-eq0
-struct_layout-returns-then-left-eq0 t c =
+pub struct_layout-returns-then-count-eq0 : goal.struct_layout-returns-then-count-eq0
+struct_layout-returns-then-count-eq0 t c =
     let y = type_table c.args.rows.now c.args.members.now c.args.entries.now in
-    sym (empty_struct y c.args.row c.requires.row_value (sym c.b_at-left.ensures ∙ c.if-left-eq0.true))
+    c.layout.ensures ∙ sym (empty_struct y c.args.row c.requires.row_value (sym c.b_at-count.ensures ∙ c.if-count-eq0.true))
 
-pub struct_layout-loop-left-init : goal.struct_layout-loop-left-init
-struct_layout-loop-left-init t c =
+pub struct_layout-overflow_add-member-end : goal.struct_layout-overflow_add-member-end
+struct_layout-overflow_add-member-end t c =
     let y = type_table c.args.rows.now c.args.members.now c.args.entries.now in
     let l = c.requires.layable in
-    let some : 0 < b_at y c.args.row = omega (arith, c.b_at-left.ensures) in
-    rw (c.a_at-next.ensures, c.b_at-left.ensures)
+    let some : 0 < b_at y c.args.row = omega (arith, c.b_at-count.ensures) in
+    let first = placing_first y c.args.row l.sound l.fits c.requires.row_value (omega (arith, l.few)) some in
+    omega (arith, first.few, c.a_at-first.ensures, c.b_at-count.ensures)
+
+pub struct_layout-loop-member-init : goal.struct_layout-loop-member-init
+struct_layout-loop-member-init t c =
+    let y = type_table c.args.rows.now c.args.members.now c.args.entries.now in
+    let l = c.requires.layable in
+    let some : 0 < b_at y c.args.row = omega (arith, c.b_at-count.ensures) in
+    let all : (c.a_at-first.result + c.b_at-count.result) - c.a_at-first.result ≡ c.b_at-count.result = omega arith in
+    rw (all, c.layout-so_far.ensures, c.a_at-first.ensures, c.b_at-count.ensures)
     (placing_first y c.args.row l.sound l.fits c.requires.row_value (omega (arith, l.few)) some)
 
 -- A member: its row is below the struct's.
 pub struct_layout-inner_layout-requires : goal.struct_layout-inner_layout-requires
 struct_layout-inner_layout-requires t c =
-    let below = next_below c.loop-left.invariant (omega arith) in
+    let below = next_below c.loop-member.invariant (omega arith) in
     rw c.row_of-inner.ensures (omega (arith, below), inner_layable c.requires.layable _ below)
 
 pub struct_layout-place-so_far-requires : goal.struct_layout-place-so_far-requires
 struct_layout-place-so_far-requires t c =
-    placeable c.loop-left.invariant (omega arith) c.inner_layout.result (rw (c.inner_layout.ensures, c.row_of-inner.ensures))
+    placeable c.loop-member.invariant (omega arith) c.inner_layout.result (rw (c.inner_layout.ensures, c.row_of-inner.ensures))
 
-pub struct_layout-loop-left-preserved : goal.struct_layout-loop-left-preserved
-struct_layout-loop-left-preserved t c =
-    rw c.place-so_far.ensures
-    (placing_next c.loop-left.invariant (omega arith) c.inner_layout.result (rw (c.inner_layout.ensures, c.row_of-inner.ensures)))
+pub struct_layout-loop-member-preserved : goal.struct_layout-loop-member-preserved
+struct_layout-loop-member-preserved t c =
+    let end = c.a_at-first.result + c.b_at-count.result in
+    let left : end - (c.loop-member.member + 1) ≡ end - c.loop-member.member - 1 = omega arith in
+    rw (left, c.place-so_far.ensures)
+    (placing_next c.loop-member.invariant (omega arith) c.inner_layout.result (rw (c.inner_layout.ensures, c.row_of-inner.ensures)))
 
 pub struct_layout-returns : goal.struct_layout-returns
-struct_layout-returns t c = c.close.ensures ∙ placing_last c.loop-left.invariant (omega arith)
+struct_layout-returns t c = c.close.ensures ∙ placing_last c.loop-member.invariant (omega arith)

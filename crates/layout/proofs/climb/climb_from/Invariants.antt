@@ -1,5 +1,4 @@
 -- `layout::climb::climb_from` meets its contract: a turn judges one row and keeps its layout.
-use Prim.Native.Nat.{◌-◌}
 use Rattle.rules.specs.TypeTable.{type_table}
 use Rattle.layout.proofs.Climbing.{Going}
 use Rattle.layout.proofs.climb.climb_from.Given as goal
@@ -7,6 +6,3 @@ use Rattle.layout.proofs.climb.climb_from.Given as goal
 abbrev pub invariant-loop-row : goal.invariant-loop-row
 invariant-loop-row l =
     Going (type_table l.rows l.members l.entries) l.row l.initial.sizes l.initial.alignments l.sizes l.alignments
-
-abbrev pub decreases-loop-row : goal.decreases-loop-row
-decreases-loop-row l = l.count - l.row

@@ -1,45 +1,29 @@
--- `layout::kinds::entries_fit` meets its contract: a width of so many bytes has patterns up to the largest of that many.
-use mathlib.Core.Path.{◌≡◌, refl}
-use mathlib.Core.Bool.{Bool, true, ◌&&◌}
-use mathlib.Core.List.{List}
-use Prim.Native.Nat.{ℕ, suc, ◌^◌}
-use native.Mathlib.Omega.{arith}
-use borrow.Author.Tests.{ne_eqb}
-use Rattle.rules.specs.TypeTable.{TypeTable}
-use Rattle.rules.specs.Sound.{entries_exist, rising_entries, width_allowed}
+-- `layout::kinds::entries_fit` meets its contract.
+use Rattle.std.proofs.Common.{◌≡◌, ltb, sym, ◌∙◌, true, ◌<◌, ◌≤◌, ◌^◌, rules, arith}
+use Rattle.std.proofs.lemmas.List.Sorted.{answers_always}
+use borrow.Author.Tests.{lt-leb}
+use Rattle.rules.specs.Sound.{width_allowed}
+use Rattle.layout.proofs.Entries.{largest, fit_none, fit_sorted, fit_past}
 use Rattle.layout.proofs.kinds.entries_fit.Goals as goal
 
-abbrev Rises : (entries : List ℕ) (largest first count : ℕ) → Bool → Type 0
-Rises entries largest first count r = (t : TypeTable) → t.entries ≡ entries → (width : ℕ) → 256 ^ width ≡ suc largest
-    → r ≡ (entries_exist t first count && rising_entries t width first count 0)
-
--- Entries of a width that is `known` to be a number's.
-of_width : (known width : ℕ) (entries : List ℕ) (first count : ℕ) (r : Bool) (largest : ℕ) → width ≡ known → width_allowed known ≡ true
-    → 256 ^ known ≡ suc largest → Rises entries largest first count r
-    → (t : TypeTable) → t.entries ≡ entries → r ≡ (width_allowed width && (entries_exist t first count && rising_entries t width first count 0))
-of_width known width entries first count r largest e allowed bound rises t same = rw (e, allowed) (rises t same known bound)
-
-pub returns-in-1 : goal.returns-in-1
-returns-in-1 c =
+pub returns-in_default-last : goal.returns-in_default-last
+returns-in_default-last c = λ t same.
     let a = c.args in
-    of_width 1 a.width a.entries.now a.first a.count c.rising_entries.result 255 c.in-1.is refl refl c.rising_entries.ensures
+    let allowed : width_allowed a.width ≡ true = sym c.width_allowed.ensures ∙ c.if-not-width_allowed.false in
+    fit_none t a.width a.first a.count c.in-Some.own same allowed c.in-Some.ensures.lookup c.in_default-last.ensures.value
 
-pub returns-in-2 : goal.returns-in-2
-returns-in-2 c =
+pub returns-then-last-width : goal.returns-then-last-width
+returns-then-last-width c = λ t same.
     let a = c.args in
-    of_width 2 a.width a.entries.now a.first a.count c.rising_entries-in-2.result 65535 c.in-2.is refl refl c.rising_entries-in-2.ensures
+    let allowed : width_allowed a.width ≡ true = sym c.width_allowed.ensures ∙ c.if-not-width_allowed.false in
+    let high : c.in-Some-last.last.now < 256 ^ a.width = omega (arith, largest a.width allowed, c.if-last-width.true) in
+    fit_sorted t a.width a.first a.count c.in-Some.own same allowed c.in-Some.ensures.lookup c.in-Some-last.last.now c.in-Some-last.ensures.value high c.is_sorted_by.result
+    (c.is_sorted_by.ensures.cases ltb (answers_always _ _ _ (λ f a r g h. search rules)))
 
-pub returns-in-4 : goal.returns-in-4
-returns-in-4 c =
+pub returns-else-last-width : goal.returns-else-last-width
+returns-else-last-width c = λ t same.
     let a = c.args in
-    of_width 4 a.width a.entries.now a.first a.count c.rising_entries-in-4.result 4294967295 c.in-4.is refl refl c.rising_entries-in-4.ensures
-
-pub returns-in-8 : goal.returns-in-8
-returns-in-8 c =
-    let a = c.args in
-    of_width 8 a.width a.entries.now a.first a.count c.rising_entries-in-8.result 18446744073709551615 c.in-8.is refl refl c.rising_entries-in-8.ensures
-
-pub returns-in_default : goal.returns-in_default
-returns-in_default c = λ t same.
-    let w = c.args.width in
-    simp (ne_eqb w 1 (λ e. omega arith), ne_eqb w 2 (λ e. omega arith), ne_eqb w 4 (λ e. omega arith), ne_eqb w 8 (λ e. omega arith))
+    let allowed : width_allowed a.width ≡ true = sym c.width_allowed.ensures ∙ c.if-not-width_allowed.false in
+    let high : 256 ^ a.width ≤ c.in-Some-last.last.now = omega (arith, largest a.width allowed, c.if-last-width.false) in
+    rw (lt-leb c.in-Some-last.last.now _ c.if-last-width.false)
+    (fit_past t a.width a.first a.count c.in-Some.own same allowed c.in-Some.ensures.lookup c.in-Some-last.last.now c.in-Some-last.ensures.value high)

@@ -1,53 +1,42 @@
 -- `layout::kinds::rising_members` meets its contract: a turn is one step of `rising_members`.
-use mathlib.Core.Bool.{Bool, true, false, ◌&&◌}
-use mathlib.Core.List.{List}
-use mathlib.Core.Path.{◌≡◌, sym, ◌∙◌}
-use Prim.Native.Nat.{ℕ, ◌+◌, ◌-◌, ◌/◌, ◌<◌}
-use native.Mathlib.Omega.{arith}
-use lib.Dec.{ltb}
-use lib.ListN.{length}
-use borrow.Author.Tests.{le-leb, lt-leb}
-use Rattle.rules.specs.TypeTable.{TypeTable, ordinal_in, row_in}
-use Rattle.rules.specs.Sound.{rising_members}
-use Rattle.layout.proofs.Rows.{rising_step, rising_none}
+use Rattle.std.proofs.Common.{◌≡◌, ◌-◌, ◌/◌, ◌<◌, ◌&&◌, true, false, ltb, length, get_or, [], sym, ◌∙◌, arith}
+use borrow.Author.Tests.{lt-ltb, le-ltb}
+use Rattle.layout.proofs.MemberLists.{members_there, rising_turn}
+use Rattle.layout.proofs.Rows.{rising_none}
 use Rattle.layout.proofs.kinds.rising_members.Goals as goal
-use Rattle.layout.proofs.kinds.rising_members.Invariants.{asked}
+use Rattle.layout.proofs.kinds.rising_members.Goals.{then-ordinal-before-via-then-ordinal-before, then-ordinal-before-via-else-ordinal-before+then-row_count-inner}
 
--- The members that are left, where the test of the next one came out as `good`.
-turn : (t : TypeTable) (first count next left before : ℕ) {rows members : List ℕ} {read named : ℕ} (good : Bool)
-    → t.rows ≡ rows → t.members ≡ members → read ≡ ordinal_in members next → named ≡ row_in members next → 0 < left
-    → asked t first count ≡ rising_members t next left before
-    → (ltb before read && ltb named (length rows / 4)) ≡ good
-    → asked t first count ≡ (good && rising_members t (next + 1) (left - 1) read)
-turn t first count next left before good same_rows same read_is named_is some earlier e =
-    earlier
-    ∙ rising_step t next left before some
-    ∙ rw (same_rows, same, ← read_is, ← named_is, e)
-
-pub returns-then-members-first : goal.returns-then-members-first
-returns-then-members-first c = λ t same_rows same.
+pub returns-then-ordinal-before : goal.returns-then-ordinal-before
+returns-then-ordinal-before c = λ t same_rows same.
     let a = c.args in
-    rw (same, lt-leb (a.first + a.count) (length a.members.now / 2) c.if-members-first.true)
+    let l = c.loop-ordinal in
+    let some = c.in-Some.ensures in
+    let left : l.ordinal-index < a.count = omega (arith, some.whole) in
+    let member = get_or c.in-Some.own.now l.ordinal-index [] in
+    let unfit : (ltb l.before (get_or member 0 0) && ltb (get_or member 1 0) (length t.rows / 4)) ≡ false =
+    elim c.then-ordinal-before.branch [
+      | then-ordinal-before-via-then-ordinal-before w ↦ rw (le-ltb l.before (get_or member 0 0) w.if-ordinal-before.true)
+      | then-ordinal-before-via-else-ordinal-before+then-row_count-inner w ↦
+          rw (lt-ltb l.before (get_or member 0 0) w.if-ordinal-before.false, same_rows, le-ltb (get_or member 1 0) (length a.rows.now / 4) w.if-row_count-inner.true)
+    ] in
+    rw (members_there t a.first a.count same some) (sym (l.invariant t same_rows same ∙ rising_turn t a.first a.count l.ordinal-index same some left l.before ∙ rw unfit))
 
-pub loop-left-init : goal.loop-left-init
-loop-left-init c =
+pub loop-ordinal-preserved : goal.loop-ordinal-preserved
+loop-ordinal-preserved c = λ t same_rows same.
     let a = c.args in
-    ((λ t same_rows same. rw (same, le-leb (a.first + a.count) (length a.members.now / 2) c.if-members-first.false)), omega arith)
-
-pub returns-then-not-good : goal.returns-then-not-good
-returns-then-not-good c = λ t same_rows same.
-    let i = c.loop-left in let a = c.args in
-    sym (turn t a.first a.count i.next i.left i.before false same_rows same c.ordinal_at-ordinal.ensures c.row_of.ensures (omega arith) (i.invariant.0 t same_rows same) c.if-not-good.true)
-
-pub loop-left-preserved : goal.loop-left-preserved
-loop-left-preserved c =
-    let i = c.loop-left in let a = c.args in (
-      (λ t same_rows same. turn t a.first a.count i.next i.left i.before true same_rows same c.ordinal_at-ordinal.ensures c.row_of.ensures (omega arith) (i.invariant.0 t same_rows same) c.if-not-good.false),
-      omega arith,
-    )
+    let l = c.loop-ordinal in
+    let some = c.in-Some.ensures in
+    let left : l.ordinal-index < a.count = omega (arith, some.whole) in
+    let member = get_or c.in-Some.own.now l.ordinal-index [] in
+    let named : ltb (get_or member 1 0) (length t.rows / 4) ≡ true = rw same_rows (lt-ltb (get_or member 1 0) (length a.rows.now / 4) c.if-row_count-inner.false) in
+    l.invariant t same_rows same
+    ∙ rising_turn t a.first a.count l.ordinal-index same some left l.before
+    ∙ rw (lt-ltb l.before (get_or member 0 0) c.if-ordinal-before.false, named)
 
 pub returns : goal.returns
 returns c = λ t same_rows same.
-    let i = c.loop-left in
-    let none : i.left ≡ 0 = omega arith in
-    sym (i.invariant.0 t same_rows same ∙ rw none (rising_none t i.next i.before))
+    let a = c.args in
+    let l = c.loop-ordinal in
+    let some = c.in-Some.ensures in
+    let none : a.count - l.ordinal-index ≡ 0 = omega (arith, some.whole) in
+    rw (members_there t a.first a.count same some) (sym (l.invariant t same_rows same ∙ rw none (rising_none t _ _)))

@@ -5,6 +5,3 @@ use Rattle.layout.proofs.sizes.close.Goals as goal
 
 pub round_up-requires : goal.round_up-requires
 round_up-requires c = search (rules, one, two, four, eight)
-
-pub returns : goal.returns
-returns c = rw c.round_up.ensures

@@ -1,22 +1,15 @@
--- `listing::lines::put_objects` meets its contract. The loop's invariant: whoever puts the rest has put all. The measure is
--- what is left of the objects.
-use native.Mathlib.Omega.{arith}
-use Rattle.listing.proofs.Putting.{goes_start, goes_on, goes_end, object_left, objects_end}
+-- `listing::lines::put_objects` meets its contract.
+use Rattle.std.proofs.Common.{arith}
+use Rattle.listing.proofs.Putting.{goes_on, goes_end, object_left, objects_end}
 use Rattle.listing.proofs.lines.put_objects.Goals as goal
 
-pub loop-i-init : goal.loop-i-init
-loop-i-init c = (omega arith, goes_start (omega arith) (omega arith))
-
-pub put_object-next-requires : goal.put_object-next-requires
-put_object-next-requires c = (omega (arith, c.loop-i.invariant.1.room), omega arith)
-
-pub loop-i-preserved : goal.loop-i-preserved
-loop-i-preserved c =
-    let objects = c.args.objects.now in
-    (omega arith, goes_on c.loop-i.invariant.1 (object_left objects c.loop-i.i (omega arith)) (omega arith) c.put_object-next.ensures)
-
-pub shape_of-out : goal.shape_of-out
-shape_of-out c = c.loop-i.invariant.1.long
+pub loop-object-preserved : goal.loop-object-preserved
+loop-object-preserved c =
+    let l = c.loop-object in
+    let chunks = c.as_chunks.ensures in
+    let left = object_left c.args.objects.now l.object-index _ (omega (arith, chunks.front_len)) in
+    goes_on l.invariant left (omega (arith, chunks.front_len)) (rw chunks.front at c.put_object-next.ensures)
 
 pub returns : goal.returns
-returns c = goes_end c.loop-i.invariant.1 (objects_end c.args.objects.now c.loop-i.i (omega arith))
+returns c =
+    goes_end c.loop-object.invariant (objects_end c.args.objects.now c.loop-object.object-index (omega (arith, c.as_chunks.ensures.front_len)))

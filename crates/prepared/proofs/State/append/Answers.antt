@@ -1,13 +1,16 @@
 -- `prepared::State::append` meets its contract: the climb goes on from the lists cut to the state's counts.
-use mathlib.Core.Path.{◌≡◌, ◌∙◌}
+use Rattle.std.specs.Prelude.{Ok, Err}
+use mathlib.Core.Path.{◌≡◌, sym}
 use native.Mathlib.Omega.{arith}
-use borrow.Author.Rules.{rules}
+use Rattle.rules.proofs.Passing.{err_passed}
+use Rattle.rules.specs.Refusals.{accepted}
 use Rattle.rules.specs.TypeTable.{TypeTable, type_table}
-use Rattle.layout.proofs.Keeping.{verdict_sound, verdict_refused}
+use Rattle.rules.specs.Sound.{soundness}
+use Rattle.layout.proofs.Climbing.{climbed_kept}
 use Rattle.prepared.specs.declared.State.{State}
-use Rattle.prepared.specs.Operations.{appended, cut_state}
-use Rattle.prepared.proofs.States.{cut_compared, Standing, cut_standing}
-use Rattle.prepared.proofs.Operations.{told, append_unsound, append_disagreed, append_done}
+use Rattle.prepared.specs.Operations.{cut_state, no_numbers}
+use Rattle.prepared.proofs.States.{Standing, cut_standing}
+use Rattle.prepared.proofs.Operations.{told, append_goes}
 use Rattle.prepared.proofs.State.append.Goals as goal
 
 -- What the climb goes on from.
@@ -15,35 +18,25 @@ stands : (s : State) (t : TypeTable) {u : State} → u ≡ cut_state s t → Sta
 stands s t e = rw e (cut_standing s t)
 
 pub overflow_cast-first : goal.overflow_cast-first
-overflow_cast-first c = omega (arith, (stands c.args.self _ c.cut_state-used.ensures).few)
+overflow_cast-first c = omega (arith, (stands c.args.self _ c.cut-used.ensures).few)
 
-pub climb_from-verdict-requires : goal.climb_from-verdict-requires
-climb_from-verdict-requires c = (stands c.args.self _ c.cut_state-used.ensures).climbing
+pub climb_from-requires : goal.climb_from-requires
+climb_from-requires c = (stands c.args.self _ c.cut-used.ensures).climbing
 
-pub returns-in-Refused : goal.returns-in-Refused
-returns-in-Refused c =
+pub returns-in_err-require_same : goal.returns-in_err-require_same
+returns-in_err-require_same c =
     let a = c.args in
     let t = type_table a.rows.now a.members.now a.entries.now in
-    let v = c.climb_from-verdict in
-    let f = c.in-Refused.fault in
-    told (appended a.self t) a.self
-    (c.refusal.ensures ∙ append_unsound a.self t f (verdict_refused t v.result f v.ensures.verdict (search rules)))
-
-pub returns-then-not-same_state : goal.returns-then-not-same_state
-returns-then-not-same_state c =
-    let a = c.args in
-    let t = type_table a.rows.now a.members.now a.entries.now in
-    let v = c.climb_from-verdict in
-    told (appended a.self t) a.self
-    (rw (c.refusal-then-not-same_state.ensures, c.disagreement.ensures)
-    (append_disagreed a.self t (verdict_sound t v.result v.ensures.verdict (search rules))
-    (cut_compared a.self t c.cut_state-used.ensures c.same_state.ensures ∙ c.if-not-same_state.true)))
+    rw (err_passed c.from_residual-in_err-require_same.ensures.1)
+    (told no_numbers (Err _) (append_goes a.self t (sym c.in_ok-climb_from.ensures.verdict) c.cut-used.ensures c.in_err-require_same.ensures))
 
 pub returns : goal.returns
 returns c =
     let a = c.args in
     let t = type_table a.rows.now a.members.now a.entries.now in
-    let v = c.climb_from-verdict in
-    told (appended a.self t) a.self
-    (append_done a.self t (stands a.self t c.cut_state-used.ensures) v.ensures (verdict_sound t v.result v.ensures.verdict (search rules))
-    (cut_compared a.self t c.cut_state-used.ensures c.same_state.ensures ∙ c.if-not-same_state.false))
+    let climbed = c.in_ok-climb_from.ensures in
+    let sound : soundness t ≡ accepted tt = sym climbed.verdict in
+    let stands = stands a.self t c.cut-used.ensures in
+    let kept = climbed_kept climbed sound _ stands.climbing.within stands.size_zeros stands.alignment_zeros in
+    told no_numbers (Ok _)
+    (rw (c.of-state.ensures, kept.0, kept.1) (append_goes a.self t sound c.cut-used.ensures c.in_ok-require_same.ensures))

@@ -1,16 +1,11 @@
--- `text::ascii::block_ascii` meets its contract: four runs of eight, one after the other.
-use mathlib.Core.Path.{◌≡◌, refl}
-use Prim.Native.Nat.{◌+◌}
-use native.Mathlib.Omega.{arith}
-use Rattle.text.proofs.Laws.{both_ascii}
+-- `text::ascii::block_ascii` meets its contract.
+use Rattle.rules.proofs.Tests.{both}
+use Rattle.text.proofs.Runs.{four_joined}
 use Rattle.text.proofs.ascii.block_ascii.Goals as goal
 
 pub returns : goal.returns
-returns c test =
-    let at = c.args.at in
-    let end : at + 24 + 8 ≡ at + 32 = omega arith in
-    rw end at
-    (both_ascii _ _
-    (both_ascii _ _ c.eight_ascii.ensures c.eight_ascii-2.ensures refl)
-    (both_ascii _ _ c.eight_ascii-3.ensures c.eight_ascii-4.ensures (omega arith))
-    (omega arith) test)
+returns g c test =
+    let halves = both _ _ test in
+    let lower = both _ _ halves.0 in
+    let upper = both _ _ halves.1 in
+    four_joined g.T.Item.number c.args.block.now (c.are_ascii.ensures lower.0) (c.are_ascii-2.ensures lower.1) (c.are_ascii-3.ensures upper.0) (c.are_ascii-4.ensures upper.1)

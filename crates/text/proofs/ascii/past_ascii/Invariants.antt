@@ -1,12 +1,7 @@
--- `text::ascii::past_ascii` meets its contract. The loop's invariant: the text may be judged from the place reached on. The
--- measure is what is left of the text.
-use Prim.Native.Nat.{◌-◌}
-use lib.ListN.{length}
+-- `text::ascii::past_ascii` meets its contract. The loop's invariant: what stands before is passed.
+use Rattle.std.proofs.Common.{map}
 use Rattle.text.specs.Sequences.{Passes}
 use Rattle.text.proofs.ascii.past_ascii.Given as goal
 
 abbrev pub invariant-loop-at : goal.invariant-loop-at
-invariant-loop-at l = Passes l.text 0 l.at
-
-abbrev pub decreases-loop-at : goal.decreases-loop-at
-decreases-loop-at l = length l.text - l.at
+invariant-loop-at g l = Passes (map g.T.Item.number l.text) 0 l.at

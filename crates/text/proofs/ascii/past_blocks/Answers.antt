@@ -1,11 +1,12 @@
--- `text::ascii::past_blocks` meets its contract. The loop's invariant: the text may be judged from the place reached on. The
--- measure is what is left of the text.
-use borrow.Author.Rules.{rules}
-use Rattle.text.proofs.Laws.{nothing_passed, both_passed}
+-- `text::ascii::past_blocks` meets its contract.
+use mathlib.Core.Path.{sym, ◌∙◌}
+use Rattle.text.proofs.Runs.{cut_passed}
 use Rattle.text.proofs.ascii.past_blocks.Goals as goal
 
-pub loop-at-init : goal.loop-at-init
-loop-at-init c = search (rules, nothing_passed)
-
-pub loop-at-preserved : goal.loop-at-preserved
-loop-at-preserved c = both_passed c.loop-at.invariant (c.block_ascii.ensures c.if-not-block_ascii.false)
+pub loop-block-preserved : goal.loop-block-preserved
+loop-block-preserved g c =
+    let inv = c.loop-block.invariant in
+    let steps = c.in-Some.ensures.steps in
+    let ascii = c.block_ascii.ensures c.if-not-block_ascii.false in
+    let passed = cut_passed g.T.Item.number c.args.text.now c.in-Some.block.now _ 32 (sym inv.1 ∙ steps.1.0) (steps.1.1 ∙ inv.0) ascii inv.2 in
+    (steps.0 ∙ inv.0, passed.0, passed.1)

@@ -1,13 +1,9 @@
--- `text::ascii::past_eights` meets its contract. The loop's invariant: the text may be judged from the place reached on. The
--- measure is what is left of the text.
-use borrow.Author.Rules.{rules}
-use Rattle.text.proofs.Laws.{nothing_passed, both_passed}
+-- `text::ascii::past_eights` meets its contract.
+use Rattle.text.proofs.Laws.{both_passed}
+use Rattle.text.proofs.Runs.{chunk_passed}
 use Rattle.text.proofs.ascii.past_eights.Goals as goal
 
-pub loop-at-init : goal.loop-at-init
-loop-at-init c = search (rules, nothing_passed)
-
-pub loop-at-preserved : goal.loop-at-preserved
-loop-at-preserved c =
-    both_passed c.loop-at.invariant
-    (both_passed (c.eight_ascii.ensures c.if-not-eight_ascii.false) c.past_blocks-at.ensures)
+pub loop-eight-preserved : goal.loop-eight-preserved
+loop-eight-preserved g c =
+    let chunk = c.in-Some.ensures.lookup.0 in
+    both_passed (chunk_passed g.T.Item.number c.args.text.now 8 chunk.1 chunk.2 (c.are_ascii.ensures c.if-not-are_ascii.false) c.loop-eight.invariant) c.past_blocks-at.ensures

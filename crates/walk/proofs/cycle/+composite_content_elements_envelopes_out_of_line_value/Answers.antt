@@ -5,13 +5,16 @@
 -- What falls at each call: 1,048,576 times the depth left, plus four times the row, plus the elements or envelopes left. What is
 -- added last keeps functions apart that call each other on one row and one depth.
 use mathlib.Core.Path.{refl, sym, ◌∙◌}
+use Prim.Native.Nat.{◌+◌}
 use native.Mathlib.Omega.{arith}
 use borrow.Author.Rules.{rules}
-use Rattle.rules.specs.TypeTable.{type_table}
+use Rattle.rules.proofs.Passing.{err_passed, ok_is}
+use Rattle.layout.specs.Ready.{table_in}
 use Rattle.layout.proofs.Readiness.{row_few, row_in_use, row_size, size_small, ready_at}
 use Rattle.ordinals.proofs.Members.{members_rise, ordinal_content, ordinal_fits, vector_in_use, box_in_use, table_members, union_members, union_else}
 use Rattle.nesting.proofs.NoParts.{outside_left}
-use Rattle.nesting.proofs.Runs.{run_start, run_asks, run_next, run_stopped, run_end}
+use Rattle.nesting.proofs.Runs.{run_asks, run_stopped, run_end}
+use Rattle.nesting.proofs.Counted.{turns_start, turns_next}
 use Rattle.walk_records.proofs.Levels.{level_left}
 use Rattle.walk_records.proofs.Openings.{ask_bytes}
 use Rattle.walk.proofs.Contents.{content_unknown, content_closed, content_not_open, payload_few, payload_small, payload_ready, payload_asks, payload_rises, content_sealed, content_refused}
@@ -20,22 +23,23 @@ use Rattle.walk.proofs.OutOfLine.{elements_few, vector_record, box_record, table
 use Rattle.walk.proofs.Numbers.{numbers_ask, numbers_done}
 use Rattle.walk.proofs.Plans.{planned_ask, planned_done, alone_ask, alone_done}
 use Rattle.walk.proofs.StrictRows.{strict_run_ask, strict_ask, strict_run_done, strict_done}
-use Rattle.walk.proofs.TableEnvelopes.{envelopes_start, envelopes_end, content_asks, last_absent, one_absent, one_present, one_refused, one_lengths}
+use Rattle.walk.proofs.TableEnvelopes.{EnvelopesLeft, envelopes_start, envelopes_end, content_asks, last_absent, one_absent, one_present, one_refused, one_lengths}
 use Rattle.walk.proofs.Values.{value_bool, value_number, value_handle, value_string}
 use Rattle.walk.proofs.NoParts.{value_empty, array_ask, array_done, number_ask, string_ask}
 use Rattle.walk.proofs.Turns.{walking_start, state_known, turn_fill, turn_filled, turn_fill_refused, turn_into, turn_call, turn_called, turn_call_refused, turn_out, turn_done}
 use Rattle.walk.proofs.OneMember.{one_member, member_asks, fill_asks, member_refused, member_filled}
 use Rattle.walk.proofs.cycle.+composite_content_elements_envelopes_out_of_line_value.Goals as goal
+use Rattle.walk.proofs.cycle.+composite_content_elements_envelopes_out_of_line_value.Goals.{envelopes-then-load-eq0+else-ordinal-count, envelopes-else-load-eq0+in_ok-d}
 
 -- ---- composite: structs and arrays
 
 pub composite-planned-requires : goal.composite-planned-requires
 composite-planned-requires t c =
-    alone_ask c.requires.0 c.plan_of-plan.ensures c.if-plan-gt0.true c.number_at-size.ensures c.requires.2
+    alone_ask c.requires.0 c.plan_of.ensures c.in-Some.is c.parts.ensures c.item_at-size.ensures c.requires.2
 
-pub composite-returns-then-plan-gt0 : goal.composite-returns-then-plan-gt0
-composite-returns-then-plan-gt0 t c =
-    alone_done c.requires.0 c.plan_of-plan.ensures c.if-plan-gt0.true c.number_at-size.ensures _ _ _ _ _ _ _ _ c.requires.2 c.planned.ensures
+pub composite-returns-in-Some : goal.composite-returns-in-Some
+composite-returns-in-Some t c =
+    alone_done c.requires.0 c.plan_of.ensures c.in-Some.is c.parts.ensures c.item_at-size.ensures _ _ _ _ _ _ _ _ c.requires.2 c.planned.ensures
 
 pub composite-value-requires : goal.composite-value-requires
 composite-value-requires t c =
@@ -47,29 +51,29 @@ pub composite-overflow_add-stop : goal.composite-overflow_add-stop
 composite-overflow_add-stop t c =
     omega (arith, c.requires.2.inside, c.requires.2.short)
 
-pub composite-overflow_add-at : goal.composite-overflow_add-at
-composite-overflow_add-at t c =
+pub composite-overflow_add-fill : goal.composite-overflow_add-fill
+composite-overflow_add-fill t c =
     omega (arith, c.requires.2.inside, c.requires.2.short)
 
-pub composite-overflow_sub-at : goal.composite-overflow_sub-at
-composite-overflow_sub-at t c =
+pub composite-overflow_sub-fill : goal.composite-overflow_sub-fill
+composite-overflow_sub-fill t c =
     let one = one_member c.requires.0 _ c.kind_at-2.ensures c.b_at.ensures c.if-kind_at-b_at.true in
-    (fill_asks c.requires.0 c.requires.1 one c.a_at-first.ensures c.row_of-part.ensures c.requires.2 c.number_at.ensures c.number_at-in-On.ensures).0
+    (fill_asks c.requires.0 c.requires.1 one c.a_at-first.ensures c.row_of-part.ensures c.requires.2 c.item_at.ensures c.item_at-then-kind_at-b_at.ensures).0
 
 pub composite-fill_at-requires : goal.composite-fill_at-requires
 composite-fill_at-requires t c =
     let one = one_member c.requires.0 _ c.kind_at-2.ensures c.b_at.ensures c.if-kind_at-b_at.true in
-    omega (arith, fill_asks c.requires.0 c.requires.1 one c.a_at-first.ensures c.row_of-part.ensures c.requires.2 c.number_at.ensures c.number_at-in-On.ensures)
+    omega (arith, fill_asks c.requires.0 c.requires.1 one c.a_at-first.ensures c.row_of-part.ensures c.requires.2 c.item_at.ensures c.item_at-then-kind_at-b_at.ensures)
 
-pub composite-returns-in-On : goal.composite-returns-in-On
-composite-returns-in-On t c =
+pub composite-returns-then-kind_at-b_at : goal.composite-returns-then-kind_at-b_at
+composite-returns-then-kind_at-b_at t c =
     let one = one_member c.requires.0 _ c.kind_at-2.ensures c.b_at.ensures c.if-kind_at-b_at.true in
-    member_filled c.requires.0 c.requires.1 one c.a_at-first.ensures c.row_of-part.ensures _ _ _ _ _ _ _ _ c.requires.2 c.value.ensures c.in-On.is c.number_at.ensures c.number_at-in-On.ensures _ c.fill_at.ensures
+    member_filled c.requires.0 c.requires.1 one c.a_at-first.ensures c.row_of-part.ensures _ _ _ _ _ _ _ _ c.requires.2 c.value.ensures c.in_ok-d.was c.item_at.ensures c.item_at-then-kind_at-b_at.ensures _ c.fill_at.ensures
 
-pub composite-returns-in-Refused : goal.composite-returns-in-Refused
-composite-returns-in-Refused t c =
+pub composite-returns-in_err-d : goal.composite-returns-in_err-d
+composite-returns-in_err-d t c =
     let one = one_member c.requires.0 _ c.kind_at-2.ensures c.b_at.ensures c.if-kind_at-b_at.true in
-    member_refused c.requires.0 c.requires.1 one c.a_at-first.ensures c.row_of-part.ensures _ _ _ _ _ _ _ _ c.requires.2 c.value.ensures c.in-Refused.is
+    rw (err_passed c.from_residual.ensures.1) (member_refused c.requires.0 c.requires.1 one c.a_at-first.ensures c.row_of-part.ensures _ _ _ _ _ _ _ _ c.requires.2 c.value.ensures c.in_err-d.was)
 
 pub composite-loop-next-init : goal.composite-loop-next-init
 composite-loop-next-init t c = (c.requires.0, walking_start c.requires.0 _ _ refl c.requires.1 c.requires.2)
@@ -89,26 +93,20 @@ composite-overflow_add-level t c =
     let loop = c.loop-next in
     omega (arith, (state_known loop.invariant.0 loop.invariant.1).done)
 
-pub composite-loop-next-smaller-in-On-fill_at : goal.composite-loop-next-smaller-in-On-fill_at
-composite-loop-next-smaller-in-On-fill_at t c =
+pub composite-loop-next-smaller-in-Fill : goal.composite-loop-next-smaller-in-Fill
+composite-loop-next-smaller-in-Fill t c =
     let loop = c.loop-next in
-    (turn_filled loop.invariant.0 loop.invariant.1 c.next_step.ensures c.in-Fill.is c.fill_at-in-Fill.ensures c.in-On-fill_at.is).1
+    (turn_filled loop.invariant.0 loop.invariant.1 c.next_step.ensures c.in-Fill.is c.fill_at-in-Fill.ensures c.in_ok-d-in-Fill.was).1
 
-pub composite-loop-next-preserved-in-On-fill_at : goal.composite-loop-next-preserved-in-On-fill_at
-composite-loop-next-preserved-in-On-fill_at t c =
+pub composite-loop-next-preserved-in-Fill : goal.composite-loop-next-preserved-in-Fill
+composite-loop-next-preserved-in-Fill t c =
     let loop = c.loop-next in
-    (loop.invariant.0, (turn_filled loop.invariant.0 loop.invariant.1 c.next_step.ensures c.in-Fill.is c.fill_at-in-Fill.ensures c.in-On-fill_at.is).0)
+    (loop.invariant.0, (turn_filled loop.invariant.0 loop.invariant.1 c.next_step.ensures c.in-Fill.is c.fill_at-in-Fill.ensures c.in_ok-d-in-Fill.was).0)
 
-pub composite-shape_of-values-in-Refused-fill_at : goal.composite-shape_of-values-in-Refused-fill_at
-composite-shape_of-values-in-Refused-fill_at t c = c.loop-next.invariant.1.lengths.0
-
-pub composite-shape_of-objects-in-Refused-fill_at : goal.composite-shape_of-objects-in-Refused-fill_at
-composite-shape_of-objects-in-Refused-fill_at t c = c.loop-next.invariant.1.lengths.1
-
-pub composite-returns-in-Refused-fill_at : goal.composite-returns-in-Refused-fill_at
-composite-returns-in-Refused-fill_at t c =
+pub composite-returns-in_err-d-in-Fill : goal.composite-returns-in_err-d-in-Fill
+composite-returns-in_err-d-in-Fill t c =
     let loop = c.loop-next in
-    turn_fill_refused loop.invariant.0 loop.invariant.1 c.next_step.ensures c.in-Fill.is c.fill_at-in-Fill.ensures c.in-Refused-fill_at.is
+    rw (err_passed c.from_residual-in_err-d-in-Fill.ensures.1) (turn_fill_refused loop.invariant.0 loop.invariant.1 c.next_step.ensures c.in-Fill.is c.fill_at-in-Fill.ensures c.in_err-d-in-Fill.was)
 
 pub composite-bounds-kept-around : goal.composite-bounds-kept-around
 composite-bounds-kept-around t c =
@@ -135,20 +133,20 @@ composite-overflow_add-place t c =
     let loop = c.loop-next in
     omega (arith, (state_known loop.invariant.0 loop.invariant.1).short)
 
-pub composite-loop-next-smaller-in-On-value : goal.composite-loop-next-smaller-in-On-value
-composite-loop-next-smaller-in-On-value t c =
+pub composite-loop-next-smaller-in-Call : goal.composite-loop-next-smaller-in-Call
+composite-loop-next-smaller-in-Call t c =
     let loop = c.loop-next in
-    (turn_called loop.invariant.0 loop.invariant.1 c.next_step.ensures c.in-Call.is c.value-in-Call.ensures c.in-On-value.is c.number_at-in-On-value.ensures).1
+    (turn_called loop.invariant.0 loop.invariant.1 c.next_step.ensures c.in-Call.is c.value-in-Call.ensures c.in_ok-d-in-Call.was c.item_at-in-Call.ensures).1
 
-pub composite-loop-next-preserved-in-On-value : goal.composite-loop-next-preserved-in-On-value
-composite-loop-next-preserved-in-On-value t c =
+pub composite-loop-next-preserved-in-Call : goal.composite-loop-next-preserved-in-Call
+composite-loop-next-preserved-in-Call t c =
     let loop = c.loop-next in
-    (loop.invariant.0, (turn_called loop.invariant.0 loop.invariant.1 c.next_step.ensures c.in-Call.is c.value-in-Call.ensures c.in-On-value.is c.number_at-in-On-value.ensures).0)
+    (loop.invariant.0, (turn_called loop.invariant.0 loop.invariant.1 c.next_step.ensures c.in-Call.is c.value-in-Call.ensures c.in_ok-d-in-Call.was c.item_at-in-Call.ensures).0)
 
-pub composite-returns-in-Refused-value : goal.composite-returns-in-Refused-value
-composite-returns-in-Refused-value t c =
+pub composite-returns-in_err-d-in-Call : goal.composite-returns-in_err-d-in-Call
+composite-returns-in_err-d-in-Call t c =
     let loop = c.loop-next in
-    turn_call_refused loop.invariant.0 loop.invariant.1 c.next_step.ensures c.in-Call.is c.value-in-Call.ensures c.in-Refused-value.is
+    rw (err_passed c.from_residual-in_err-d-in-Call.ensures.1) (turn_call_refused loop.invariant.0 loop.invariant.1 c.next_step.ensures c.in-Call.is c.value-in-Call.ensures c.in_err-d-in-Call.was)
 
 pub composite-overflow_sub-around : goal.composite-overflow_sub-around
 composite-overflow_sub-around t c =
@@ -165,12 +163,6 @@ composite-loop-next-preserved t c =
     let loop = c.loop-next in
     (loop.invariant.0, (turn_out loop.invariant.0 loop.invariant.1 c.next_step.ensures c.in-Out.is).0)
 
-pub composite-shape_of-values-in-Done : goal.composite-shape_of-values-in-Done
-composite-shape_of-values-in-Done t c = c.loop-next.invariant.1.lengths.0
-
-pub composite-shape_of-objects-in-Done : goal.composite-shape_of-objects-in-Done
-composite-shape_of-objects-in-Done t c = c.loop-next.invariant.1.lengths.1
-
 pub composite-returns-in-Done : goal.composite-returns-in-Done
 composite-returns-in-Done t c =
     let loop = c.loop-next in
@@ -184,36 +176,39 @@ content-unknown_content-requires t c =
 
 pub content-known_opened-requires : goal.content-known_opened-requires
 content-known_opened-requires t c =
-    (ask_bytes c.requires.2, omega (arith, payload_few _ c.requires.0 c.requires.1 c.in-Known.is), payload_small _ c.requires.0 c.requires.1 c.in-Known.is c.number_at-size.ensures)
+    (ask_bytes c.requires.2, omega (arith, payload_few _ c.requires.0 c.requires.1 c.in-Some.is), payload_small _ c.requires.0 c.requires.1 c.in-Some.is c.item_at-size.ensures)
 
 pub content-overflow_sub-depth : goal.content-overflow_sub-depth
-content-overflow_sub-depth t c = search (rules, level_left)
+content-overflow_sub-depth t c = search (rules, level_left, ok_is c.in_ok-d-in-Some.was c.in-Open.is)
 
 pub content-value-requires : goal.content-value-requires
 content-value-requires t c =
-    let l = level_left _ _ c.known_opened.ensures.1 c.in-Open.is in
-    (omega (arith, l, payload_few _ c.requires.0 c.requires.1 c.in-Known.is), (payload_ready _ c.requires.0 c.requires.1 c.in-Known.is, payload_asks _ c.args.bytes.now _ _ _ _ c.args.values.now _ _ _ _ c.requires.0 c.requires.1 c.in-Known.is c.number_at-size.ensures c.requires.2 _ c.known_opened.ensures.0 c.in-Open.is))
+    let l = level_left _ _ c.known_opened.ensures.1 (ok_is c.in_ok-d-in-Some.was c.in-Open.is) in
+    (omega (arith, l, payload_few _ c.requires.0 c.requires.1 c.in-Some.is), (payload_ready _ c.requires.0 c.requires.1 c.in-Some.is, payload_asks _ c.args.bytes.now _ _ _ _ c.args.values.now _ _ _ _ c.requires.0 c.requires.1 c.in-Some.is c.item_at-size.ensures c.requires.2 _ c.known_opened.ensures.0 (ok_is c.in_ok-d-in-Some.was c.in-Open.is)))
 
 pub content-sealed-requires : goal.content-sealed-requires
 content-sealed-requires t c =
     let a = c.requires.2 in
-    let p = payload_rises _ _ _ _ _ _ _ _ _ _ _ c.requires.0 c.requires.1 c.in-Known.is c.number_at-size.ensures c.requires.2 _ c.known_opened.ensures.0 c.in-Open.is c.value.ensures c.in-On.is in
-    (omega (arith, a.inside, a.short), payload_small _ c.requires.0 c.requires.1 c.in-Known.is c.number_at-size.ensures, p.0, p.1)
+    let p = payload_rises _ _ _ _ _ _ _ _ _ _ _ c.requires.0 c.requires.1 c.in-Some.is c.item_at-size.ensures c.requires.2 _ c.known_opened.ensures.0 (ok_is c.in_ok-d-in-Some.was c.in-Open.is) c.value.ensures c.in_ok-d-in-Open.was in
+    (omega (arith, a.inside, a.short), payload_small _ c.requires.0 c.requires.1 c.in-Some.is c.item_at-size.ensures, p.0, p.1)
 
-pub content-returns-in-Unknown : goal.content-returns-in-Unknown
-content-returns-in-Unknown t c = search (rules, content_unknown)
+pub content-returns-in-None : goal.content-returns-in-None
+content-returns-in-None t c = search (rules, content_unknown)
 
 pub content-returns-in-Closed : goal.content-returns-in-Closed
-content-returns-in-Closed t c = search (rules, content_closed)
+content-returns-in-Closed t c = search (rules, content_closed, ok_is c.in_ok-d-in-Some.was c.in-Closed.is)
 
-pub content-returns-in-Refused : goal.content-returns-in-Refused
-content-returns-in-Refused t c = search (rules, content_not_open)
+pub content-returns-in_err-d-in-Some : goal.content-returns-in_err-d-in-Some
+content-returns-in_err-d-in-Some t c =
+    rw (err_passed c.from_residual.ensures.1) (content_not_open _ _ _ _ _ _ _ _ _ _ _ c.requires.0 c.requires.1 c.in-Some.is c.item_at-size.ensures c.requires.2 _ c.known_opened.ensures.0 c.in_err-d-in-Some.was)
 
-pub content-returns-in-On : goal.content-returns-in-On
-content-returns-in-On t c = search (rules, content_sealed, c.requires, c.in-Known.is, c.number_at-size.ensures)
+pub content-returns-in_ok-d-in-Open : goal.content-returns-in_ok-d-in-Open
+content-returns-in_ok-d-in-Open t c =
+    content_sealed _ _ _ _ _ _ _ _ _ _ _ c.requires.0 c.requires.1 c.in-Some.is c.item_at-size.ensures c.requires.2 _ c.known_opened.ensures.0 (ok_is c.in_ok-d-in-Some.was c.in-Open.is) c.value.ensures c.in_ok-d-in-Open.was c.sealed.ensures
 
-pub content-returns-in-Refused-value : goal.content-returns-in-Refused-value
-content-returns-in-Refused-value t c = search (rules, content_refused, c.requires, c.in-Known.is, c.number_at-size.ensures)
+pub content-returns-in_err-d-in-Open : goal.content-returns-in_err-d-in-Open
+content-returns-in_err-d-in-Open t c =
+    rw (err_passed c.from_residual-in_err-d-in-Open.ensures.1) (content_refused _ _ _ _ _ _ _ _ _ _ _ c.requires.0 c.requires.1 c.in-Some.is c.item_at-size.ensures c.requires.2 _ c.known_opened.ensures.0 (ok_is c.in_ok-d-in-Some.was c.in-Open.is) c.value.ensures c.in_err-d-in-Open.was)
 
 -- ---- elements: a vector's elements
 
@@ -233,38 +228,35 @@ elements-returns-then-kind t c =
     strict_run_done c.requires.0 c.kind_at-kind.ensures c.if-kind.true _ _ _ _ _ _ _ _ _ c.requires.1 c.strict_values.ensures
 
 pub elements-planned-requires : goal.elements-planned-requires
-elements-planned-requires t c = planned_ask c.requires.0 c.plan_of-plan.ensures c.if-plan-gt0.true c.number_at-size.ensures _ c.requires.1
+elements-planned-requires t c = planned_ask c.requires.0 c.plan_of.ensures c.in-Some.is c.parts.ensures c.item_at-size.ensures _ c.requires.1
 
-pub elements-returns-then-plan-gt0 : goal.elements-returns-then-plan-gt0
-elements-returns-then-plan-gt0 t c = planned_done c.requires.0 c.plan_of-plan.ensures c.if-plan-gt0.true c.number_at-size.ensures _ _ _ _ _ _ _ _ _ c.requires.1 c.planned.ensures
+pub elements-returns-in-Some : goal.elements-returns-in-Some
+elements-returns-in-Some t c = planned_done c.requires.0 c.plan_of.ensures c.in-Some.is c.parts.ensures c.item_at-size.ensures _ _ _ _ _ _ _ _ _ c.requires.1 c.planned.ensures
 
-pub elements-loop-left-init : goal.elements-loop-left-init
-elements-loop-left-init t c = (run_start 0 _ _ refl c.requires.1, search rules, search rules)
+pub elements-loop-init : goal.elements-loop-init
+elements-loop-init t c = (turns_start _ _ refl c.requires.1, search rules, search rules)
 
 pub elements-value-requires : goal.elements-value-requires
-elements-value-requires t c = (omega arith, (search rules, run_asks c.loop-left.invariant.0 c.loop-left-test.true))
+elements-value-requires t c = (omega arith, (search rules, run_asks c.loop.invariant.0 (omega arith)))
 
-pub elements-returns-in-Refused : goal.elements-returns-in-Refused
-elements-returns-in-Refused t c = run_stopped c.loop-left.invariant.0 c.loop-left-test.true c.value.ensures c.in-Refused.is
+pub elements-returns-in_err-d : goal.elements-returns-in_err-d
+elements-returns-in_err-d t c = rw (err_passed c.from_residual.ensures.1) (run_stopped c.loop.invariant.0 (omega arith) c.value.ensures c.in_err-d.was)
 
-pub elements-loop-left-preserved : goal.elements-loop-left-preserved
-elements-loop-left-preserved t c =
+pub elements-loop-preserved : goal.elements-loop-preserved
+elements-loop-preserved t c =
     let r = c.requires.0 in
-    (run_next c.loop-left.invariant.0 c.loop-left-test.true c.value.ensures (row_size r _ r.in_use c.number_at-size.ensures) c.in-On.is, search rules, search rules)
+    (turns_next c.loop.invariant.0 (omega arith) c.value.ensures (row_size r _ r.in_use c.item_at-size.ensures) c.in_ok-d.was, search rules, search rules)
 
 pub elements-returns : goal.elements-returns
-elements-returns t c = run_end c.loop-left.invariant.0 c.loop-left-test.false
+elements-returns t c = run_end c.loop.invariant.0 (omega arith)
 
 -- ---- envelopes: a table's envelopes
 
 pub envelopes-loop-i-init : goal.envelopes-loop-i-init
 envelopes-loop-i-init t c = (search (rules, envelopes_start), search rules, search rules, search rules)
 
-pub envelopes-returns-then-i-count : goal.envelopes-returns-then-i-count
-envelopes-returns-then-i-count t c = search (rules, last_absent)
-
-pub envelopes-loop-i-preserved-then-load64-eq0 : goal.envelopes-loop-i-preserved-then-load64-eq0
-envelopes-loop-i-preserved-then-load64-eq0 t c = (search (rules, one_absent), search rules, search rules, search rules)
+pub envelopes-returns-then-ordinal-count : goal.envelopes-returns-then-ordinal-count
+envelopes-returns-then-ordinal-count t c = search (rules, last_absent)
 
 pub envelopes-content-requires : goal.envelopes-content-requires
 envelopes-content-requires t c =
@@ -272,15 +264,24 @@ envelopes-content-requires t c =
     (omega arith, (c.requires.0, ordinal_fits m _ c.ordinal_of-what.result (ordinal_content m _ c.ordinal_of-what.result c.ordinal_of-what.ensures), content_asks _ _ _ _ _ _ _ _ _ _ c.loop-i.invariant.0 c.loop-i-test.true c.gave-e.ensures.1))
 
 pub envelopes-loop-i-preserved : goal.envelopes-loop-i-preserved
-envelopes-loop-i-preserved t c =
-    let m = table_members c.requires.0 refl c.a_at-first.ensures c.b_at-known.ensures c.requires.1 in
-    let lengths = one_lengths _ _ _ _ _ _ _ _ _ _ c.loop-i.invariant.0 c.loop-i-test.true c.load64.ensures c.ordinal_of-what.result c.if-load64-eq0.false c.a_at-first.ensures c.b_at-known.ensures m c.ordinal_of-what.ensures c.gave-e.ensures c.content.ensures in
-    (one_present _ _ _ _ _ _ _ _ _ _ c.loop-i.invariant.0 c.loop-i-test.true c.load64.ensures c.ordinal_of-what.result c.if-load64-eq0.false c.a_at-first.ensures c.b_at-known.ensures m c.ordinal_of-what.ensures c.gave-e.ensures c.content.ensures c.in-On.is, omega (arith, c.loop-i-test.true), lengths.0 ∙ c.loop-i.invariant.2, lengths.1 ∙ c.loop-i.invariant.3)
+envelopes-loop-i-preserved t c = (left, omega arith, c.if-load-eq0.auto.values ∙ c.loop-i.invariant.2, c.if-load-eq0.auto.objects ∙ c.loop-i.invariant.3)
+  where
+    left : EnvelopesLeft (table_in c.args.laid.now) c.args.bytes.now c.args.held c.args.depth c.args.row c.args.count c.args.at c.args.values.now c.if-load-eq0.values c.args.objects.now c.if-load-eq0.objects c.args.c c.if-load-eq0.d (c.loop-i.i + 1)
+    left =
+        let m = table_members c.requires.0 refl c.a_at-first.ensures c.b_at-known.ensures c.requires.1 in
+        elim c.if-load-eq0.branch [
+          | envelopes-then-load-eq0+else-ordinal-count w ↦
+              rw (w.values-is, w.objects-is, w.d-is)
+              (one_absent _ _ _ _ _ _ _ _ _ _ c.loop-i.invariant.0 c.loop-i-test.true c.load.ensures w.if-load-eq0.true w.if-ordinal-count.false w.gave-d.ensures)
+          | envelopes-else-load-eq0+in_ok-d w ↦
+              rw (w.values-is, w.objects-is, w.d-is)
+              (one_present _ _ _ _ _ _ _ _ _ _ c.loop-i.invariant.0 c.loop-i-test.true c.load.ensures w.ordinal_of-what.result w.if-load-eq0.false c.a_at-first.ensures c.b_at-known.ensures m w.ordinal_of-what.ensures w.gave-e.ensures w.content.ensures w.in_ok-d.was)
+        ]
 
-pub envelopes-returns-in-Refused : goal.envelopes-returns-in-Refused
-envelopes-returns-in-Refused t c =
+pub envelopes-returns-in_err-d : goal.envelopes-returns-in_err-d
+envelopes-returns-in_err-d t c =
     let m = table_members c.requires.0 refl c.a_at-first.ensures c.b_at-known.ensures c.requires.1 in
-    one_refused _ _ _ _ _ _ _ _ _ _ c.loop-i.invariant.0 c.loop-i-test.true c.load64.ensures c.ordinal_of-what.result c.if-load64-eq0.false c.a_at-first.ensures c.b_at-known.ensures m c.ordinal_of-what.ensures c.gave-e.ensures c.content.ensures c.in-Refused.is
+    rw (err_passed c.from_residual.ensures.1) (one_refused _ _ _ _ _ _ _ _ _ _ c.loop-i.invariant.0 c.loop-i-test.true c.load.ensures c.ordinal_of-what.result c.if-load-eq0.false c.a_at-first.ensures c.b_at-known.ensures m c.ordinal_of-what.ensures c.gave-e.ensures c.content.ensures c.in_err-d.was)
 
 pub envelopes-returns : goal.envelopes-returns
 envelopes-returns t c = search (rules, envelopes_end)
@@ -291,78 +292,84 @@ pub out_of_line-vector_opened-requires : goal.out_of_line-vector_opened-requires
 out_of_line-vector_opened-requires t c =
     let r = c.requires.0 in
     let h = vector_in_use r c.kind_at-kind.ensures c.a_at-a.ensures c.if-kind-eq5.true in
-    (ask_bytes (vector_record _ _ c.kind_at-kind.ensures c.requires.2 c.if-kind-eq5.true), omega (arith, row_few r), size_small r _ h c.number_at-size.ensures)
+    (ask_bytes (vector_record _ _ c.kind_at-kind.ensures c.requires.2 c.if-kind-eq5.true), omega (arith, row_few r), size_small r _ h c.item_at-size.ensures)
 
 pub out_of_line-overflow_sub-depth : goal.out_of_line-overflow_sub-depth
-out_of_line-overflow_sub-depth t c = search (rules, level_left)
+out_of_line-overflow_sub-depth t c = search (rules, level_left, ok_is c.in_ok-d.was c.in-Open.is)
 
 pub out_of_line-elements-requires : goal.out_of_line-elements-requires
 out_of_line-elements-requires t c =
     let r = c.requires.0 in
     let h = vector_in_use r c.kind_at-kind.ensures c.a_at-a.ensures c.if-kind-eq5.true in
-    let l = level_left _ _ c.vector_opened.ensures.1 c.in-Open.is in
-    let asks = vector_asks (type_table c.args.rows.now c.args.members.now c.args.entries.now) c.args.bytes.now _ _ _ _ _ _ _ _ _ _ c.kind_at-kind.ensures c.requires.2 c.if-kind-eq5.true c.a_at-a.ensures c.b_at-b.ensures c.c_at-form.ensures c.requires.0 c.number_at-size.ensures c.vector_opened.ensures.0 c.in-Open.is in
+    let l = level_left _ _ c.vector_opened.ensures.1 (ok_is c.in_ok-d.was c.in-Open.is) in
+    let asks = vector_asks (table_in c.args.laid.now) c.args.bytes.now _ _ _ _ _ _ _ _ _ _ c.kind_at-kind.ensures c.requires.2 c.if-kind-eq5.true c.a_at-a.ensures c.b_at-b.ensures c.c_at-form.ensures c.requires.0 c.item_at-size.ensures c.vector_opened.ensures.0 (ok_is c.in_ok-d.was c.in-Open.is) in
     (omega (arith, row_in_use r _ h, elements_few r _ h _ asks, l), (ready_at r _ _ (omega arith) h, asks))
 
 pub out_of_line-returns-in-Closed : goal.out_of_line-returns-in-Closed
-out_of_line-returns-in-Closed t c = search (rules, vector_closed, c.requires.0, c.requires.2)
+out_of_line-returns-in-Closed t c =
+    vector_closed _ _ _ _ _ _ _ _ _ _ _ _ c.kind_at-kind.ensures c.requires.2 c.if-kind-eq5.true c.a_at-a.ensures c.b_at-b.ensures c.c_at-form.ensures c.requires.0 c.item_at-size.ensures c.vector_opened.ensures.0 (ok_is c.in_ok-d.was c.in-Closed.is)
 
-pub out_of_line-returns-in-Refused : goal.out_of_line-returns-in-Refused
-out_of_line-returns-in-Refused t c = search (rules, vector_refused, c.requires.0, c.requires.2)
+pub out_of_line-returns-in_err-d : goal.out_of_line-returns-in_err-d
+out_of_line-returns-in_err-d t c =
+    rw (err_passed c.from_residual.ensures.1) (vector_refused _ _ _ _ _ _ _ _ _ _ _ _ c.kind_at-kind.ensures c.requires.2 c.if-kind-eq5.true c.a_at-a.ensures c.b_at-b.ensures c.c_at-form.ensures c.requires.0 c.item_at-size.ensures c.vector_opened.ensures.0 c.in_err-d.was)
 
 pub out_of_line-returns-in-Open : goal.out_of_line-returns-in-Open
 out_of_line-returns-in-Open t c =
-    rw c.passed_on.ensures (vector_done _ _ _ _ _ _ _ _ _ _ _ _ c.kind_at-kind.ensures c.requires.2 c.if-kind-eq5.true c.a_at-a.ensures c.b_at-b.ensures c.c_at-form.ensures c.requires.0 c.number_at-size.ensures c.vector_opened.ensures.0 c.in-Open.is c.elements.ensures)
+    vector_done _ _ _ _ _ _ _ _ _ _ _ _ c.kind_at-kind.ensures c.requires.2 c.if-kind-eq5.true c.a_at-a.ensures c.b_at-b.ensures c.c_at-form.ensures c.requires.0 c.item_at-size.ensures c.vector_opened.ensures.0 (ok_is c.in_ok-d.was c.in-Open.is) c.elements.ensures
 
 pub out_of_line-box_opened-requires : goal.out_of_line-box_opened-requires
 out_of_line-box_opened-requires t c =
     let r = c.requires.0 in
     let h = box_in_use r c.kind_at-kind.ensures c.a_at-a.ensures c.if-kind-eq8.true in
-    (ask_bytes (box_record _ _ c.kind_at-kind.ensures c.requires.2 c.if-kind-eq8.true), omega (arith, row_in_use r _ h), size_small r _ h c.number_at-size-then-kind-eq8.ensures)
+    (ask_bytes (box_record _ _ c.kind_at-kind.ensures c.requires.2 c.if-kind-eq8.true), omega (arith, row_in_use r _ h), size_small r _ h c.item_at-size-then-kind-eq8.ensures)
 
-pub out_of_line-overflow_sub-depth-in-Open-box_opened : goal.out_of_line-overflow_sub-depth-in-Open-box_opened
-out_of_line-overflow_sub-depth-in-Open-box_opened t c = search (rules, level_left)
+pub out_of_line-overflow_sub-depth-in-Open-2 : goal.out_of_line-overflow_sub-depth-in-Open-2
+out_of_line-overflow_sub-depth-in-Open-2 t c = search (rules, level_left, ok_is c.in_ok-d-2.was c.in-Open-2.is)
 
 pub out_of_line-value-requires : goal.out_of_line-value-requires
 out_of_line-value-requires t c =
     let r = c.requires.0 in
     let h = box_in_use r c.kind_at-kind.ensures c.a_at-a.ensures c.if-kind-eq8.true in
-    let l = level_left _ _ c.box_opened.ensures.1 c.in-Open-box_opened.is in
-    (omega (arith, row_in_use r _ h, l), (ready_at r _ _ (omega arith) h, box_asks (type_table c.args.rows.now c.args.members.now c.args.entries.now) c.args.bytes.now _ _ _ _ _ _ _ _ _ _ c.kind_at-kind.ensures c.requires.2 c.if-kind-eq8.true c.a_at-a.ensures c.requires.0 c.number_at-size-then-kind-eq8.ensures c.box_opened.ensures.0 c.in-Open-box_opened.is))
+    let l = level_left _ _ c.box_opened.ensures.1 (ok_is c.in_ok-d-2.was c.in-Open-2.is) in
+    (omega (arith, row_in_use r _ h, l), (ready_at r _ _ (omega arith) h, box_asks (table_in c.args.laid.now) c.args.bytes.now _ _ _ _ _ _ _ _ _ _ c.kind_at-kind.ensures c.requires.2 c.if-kind-eq8.true c.a_at-a.ensures c.requires.0 c.item_at-size-then-kind-eq8.ensures c.box_opened.ensures.0 (ok_is c.in_ok-d-2.was c.in-Open-2.is)))
 
-pub out_of_line-returns-in-Closed-box_opened : goal.out_of_line-returns-in-Closed-box_opened
-out_of_line-returns-in-Closed-box_opened t c = search (rules, box_absent, c.requires.0, c.requires.2)
+pub out_of_line-returns-in-Closed-2 : goal.out_of_line-returns-in-Closed-2
+out_of_line-returns-in-Closed-2 t c =
+    box_absent _ _ _ _ _ _ _ _ _ _ _ _ c.kind_at-kind.ensures c.requires.2 c.if-kind-eq8.true c.a_at-a.ensures c.requires.0 c.item_at-size-then-kind-eq8.ensures c.box_opened.ensures.0 (ok_is c.in_ok-d-2.was c.in-Closed-2.is)
 
-pub out_of_line-returns-in-Refused-box_opened : goal.out_of_line-returns-in-Refused-box_opened
-out_of_line-returns-in-Refused-box_opened t c = search (rules, box_refused, c.requires.0, c.requires.2)
+pub out_of_line-returns-in_err-d-2 : goal.out_of_line-returns-in_err-d-2
+out_of_line-returns-in_err-d-2 t c =
+    rw (err_passed c.from_residual-in_err-d-2.ensures.1) (box_refused _ _ _ _ _ _ _ _ _ _ _ _ c.kind_at-kind.ensures c.requires.2 c.if-kind-eq8.true c.a_at-a.ensures c.requires.0 c.item_at-size-then-kind-eq8.ensures c.box_opened.ensures.0 c.in_err-d-2.was)
 
-pub out_of_line-returns-in-Open-box_opened : goal.out_of_line-returns-in-Open-box_opened
-out_of_line-returns-in-Open-box_opened t c =
-    rw c.passed_on-in-Open-box_opened.ensures (box_done _ _ _ _ _ _ _ _ _ _ _ _ c.kind_at-kind.ensures c.requires.2 c.if-kind-eq8.true c.a_at-a.ensures c.requires.0 c.number_at-size-then-kind-eq8.ensures c.box_opened.ensures.0 c.in-Open-box_opened.is c.value.ensures)
+pub out_of_line-returns-in-Open-2 : goal.out_of_line-returns-in-Open-2
+out_of_line-returns-in-Open-2 t c =
+    box_done _ _ _ _ _ _ _ _ _ _ _ _ c.kind_at-kind.ensures c.requires.2 c.if-kind-eq8.true c.a_at-a.ensures c.requires.0 c.item_at-size-then-kind-eq8.ensures c.box_opened.ensures.0 (ok_is c.in_ok-d-2.was c.in-Open-2.is) c.value.ensures
 
 pub out_of_line-table_opened-requires : goal.out_of_line-table_opened-requires
 out_of_line-table_opened-requires t c =
     (ask_bytes (table_record_lem _ _ c.kind_at-kind.ensures c.requires.2 c.if-kind-eq9.true), omega (arith, row_few c.requires.0))
 
-pub out_of_line-overflow_sub-depth-in-Open-table_opened : goal.out_of_line-overflow_sub-depth-in-Open-table_opened
-out_of_line-overflow_sub-depth-in-Open-table_opened t c = search (rules, level_left)
+pub out_of_line-overflow_sub-depth-in-Open-3 : goal.out_of_line-overflow_sub-depth-in-Open-3
+out_of_line-overflow_sub-depth-in-Open-3 t c = search (rules, level_left, ok_is c.in_ok-d-3.was c.in-Open-3.is)
 
 pub out_of_line-envelopes-requires : goal.out_of_line-envelopes-requires
 out_of_line-envelopes-requires t c =
     let r = c.requires.0 in
-    let l = level_left _ _ c.table_opened.ensures.1 c.in-Open-table_opened.is in
-    let asks = table_asks (type_table c.args.rows.now c.args.members.now c.args.entries.now) c.args.bytes.now _ _ _ _ _ _ _ _ _ _ c.kind_at-kind.ensures c.requires.2 c.if-kind-eq9.true c.requires.0 c.table_opened.ensures.0 c.in-Open-table_opened.is in
+    let l = level_left _ _ c.table_opened.ensures.1 (ok_is c.in_ok-d-3.was c.in-Open-3.is) in
+    let asks = table_asks (table_in c.args.laid.now) c.args.bytes.now _ _ _ _ _ _ _ _ _ _ c.kind_at-kind.ensures c.requires.2 c.if-kind-eq9.true c.requires.0 c.table_opened.ensures.0 (ok_is c.in_ok-d-3.was c.in-Open-3.is) in
     (omega (arith, asks.inside, asks.short, l), (ready_at r _ _ (omega arith) r.in_use, sym c.kind_at-kind.ensures ∙ c.if-kind-eq9.true, asks))
 
-pub out_of_line-returns-in-Closed-table_opened : goal.out_of_line-returns-in-Closed-table_opened
-out_of_line-returns-in-Closed-table_opened t c = search (rules, table_closed)
+pub out_of_line-returns-in-Closed-3 : goal.out_of_line-returns-in-Closed-3
+out_of_line-returns-in-Closed-3 t c =
+    table_closed _ _ _ _ _ _ _ _ _ _ _ _ c.kind_at-kind.ensures c.requires.2 c.if-kind-eq9.true c.requires.0 c.table_opened.ensures.0 (ok_is c.in_ok-d-3.was c.in-Closed-3.is)
 
-pub out_of_line-returns-in-Refused-table_opened : goal.out_of_line-returns-in-Refused-table_opened
-out_of_line-returns-in-Refused-table_opened t c = search (rules, table_refused)
+pub out_of_line-returns-in_err-d-3 : goal.out_of_line-returns-in_err-d-3
+out_of_line-returns-in_err-d-3 t c =
+    rw (err_passed c.from_residual-in_err-d-3.ensures.1) (table_refused _ _ _ _ _ _ _ _ _ _ _ _ c.kind_at-kind.ensures c.requires.2 c.if-kind-eq9.true c.requires.0 c.table_opened.ensures.0 c.in_err-d-3.was)
 
-pub out_of_line-returns-in-Open-table_opened : goal.out_of_line-returns-in-Open-table_opened
-out_of_line-returns-in-Open-table_opened t c =
-    rw c.passed_on-in-Open-table_opened.ensures (table_done _ _ _ _ _ _ _ _ _ _ _ _ c.kind_at-kind.ensures c.requires.2 c.if-kind-eq9.true c.requires.0 c.table_opened.ensures.0 c.in-Open-table_opened.is c.envelopes.ensures)
+pub out_of_line-returns-in-Open-3 : goal.out_of_line-returns-in-Open-3
+out_of_line-returns-in-Open-3 t c =
+    table_done _ _ _ _ _ _ _ _ _ _ _ _ c.kind_at-kind.ensures c.requires.2 c.if-kind-eq9.true c.requires.0 c.table_opened.ensures.0 (ok_is c.in_ok-d-3.was c.in-Open-3.is) c.envelopes.ensures
 
 pub out_of_line-union_member-requires : goal.out_of_line-union_member-requires
 out_of_line-union_member-requires t c =
@@ -383,19 +390,21 @@ out_of_line-content-requires t c =
     let r = c.requires.0 in
     let q = union_else r c.kind_at-kind.ensures c.requires.1 c.if-kind-eq5.false c.if-kind-eq8.false c.if-kind-eq9.false in
     let m = union_members r c.kind_at-kind.ensures c.a_at-a.ensures c.b_at-b.ensures q in
-    let a = union_asks (type_table c.args.rows.now c.args.members.now c.args.entries.now) c.args.bytes.now _ _ _ _ _ _ c.args.objects.now _ _ c.kind_at-kind.ensures c.a_at-a.ensures c.b_at-b.ensures c.c_at-form.ensures q c.requires.0 c.requires.2 c.union_member.ensures.0 c.in-Some.is in
-    (omega arith, (r, member_fits m.0 _ _ _ c.union_member.ensures.1 c.in-Some.is, a))
+    let a = union_asks (table_in c.args.laid.now) c.args.bytes.now _ _ _ _ _ _ c.args.objects.now _ _ c.kind_at-kind.ensures c.a_at-a.ensures c.b_at-b.ensures c.c_at-form.ensures q c.requires.0 c.requires.2 c.union_member.ensures.0 (ok_is c.in_ok-d-4.was c.in-Present.is) in
+    (omega arith, (r, member_fits m.0 _ _ _ c.union_member.ensures.1 (ok_is c.in_ok-d-4.was c.in-Present.is), a))
 
-pub out_of_line-returns-in-None : goal.out_of_line-returns-in-None
-out_of_line-returns-in-None t c = search (rules, union_none, union_else)
+pub out_of_line-returns-in-Absent : goal.out_of_line-returns-in-Absent
+out_of_line-returns-in-Absent t c = search (rules, union_none, union_else, ok_is c.in_ok-d-4.was c.in-Absent.is)
 
-pub out_of_line-returns-in-Bad : goal.out_of_line-returns-in-Bad
-out_of_line-returns-in-Bad t c = search (rules, union_bad, union_else)
-
-pub out_of_line-returns-in-Some : goal.out_of_line-returns-in-Some
-out_of_line-returns-in-Some t c =
+pub out_of_line-returns-in_err-d-4 : goal.out_of_line-returns-in_err-d-4
+out_of_line-returns-in_err-d-4 t c =
     let q = union_else c.requires.0 c.kind_at-kind.ensures c.requires.1 c.if-kind-eq5.false c.if-kind-eq8.false c.if-kind-eq9.false in
-    rw c.passed_on-in-Some.ensures (union_done _ _ _ _ _ _ _ _ _ _ _ c.kind_at-kind.ensures c.a_at-a.ensures c.b_at-b.ensures c.c_at-form.ensures q c.requires.0 c.requires.2 c.union_member.ensures.0 c.in-Some.is c.content.ensures)
+    rw (err_passed c.from_residual-in_err-d-4.ensures.1) (union_bad _ _ _ _ _ _ _ _ _ _ _ c.kind_at-kind.ensures c.a_at-a.ensures c.b_at-b.ensures c.c_at-form.ensures q c.requires.0 c.requires.2 c.union_member.ensures.0 c.in_err-d-4.was)
+
+pub out_of_line-returns-in-Present : goal.out_of_line-returns-in-Present
+out_of_line-returns-in-Present t c =
+    let q = union_else c.requires.0 c.kind_at-kind.ensures c.requires.1 c.if-kind-eq5.false c.if-kind-eq8.false c.if-kind-eq9.false in
+    union_done _ _ _ _ _ _ _ _ _ _ _ c.kind_at-kind.ensures c.a_at-a.ensures c.b_at-b.ensures c.c_at-form.ensures q c.requires.0 c.requires.2 c.union_member.ensures.0 (ok_is c.in_ok-d-4.was c.in-Present.is) c.content.ensures
 
 -- ---- value: a value of any kind
 
@@ -444,6 +453,6 @@ value-returns-then-kind-2 t c =
 
 pub value-out_of_line-requires : goal.value-out_of_line-requires
 value-out_of_line-requires t c =
-    (omega arith, (c.requires.0, outside_left (type_table c.args.rows.now c.args.members.now c.args.entries.now) c.args.row c.kind_at-kind.ensures c.if-kind-eq1.false c.if-kind-eq2.false c.if-kind-eq3.false c.if-kind.false c.if-kind-eq6.false c.if-kind-2.false, c.requires.1))
+    (omega arith, (c.requires.0, outside_left (table_in c.args.laid.now) c.args.row c.kind_at-kind.ensures c.if-kind-eq1.false c.if-kind-eq2.false c.if-kind-eq3.false c.if-kind.false c.if-kind-eq6.false c.if-kind-2.false, c.requires.1))
 
 -- ---- all six

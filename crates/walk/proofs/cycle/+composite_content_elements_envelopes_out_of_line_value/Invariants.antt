@@ -7,7 +7,7 @@
 use mathlib.Core.Path.{◌≡◌}
 use Prim.Native.Nat.{◌+◌, ◌-◌, ◌*◌, ◌≤◌}
 use lib.ListN.{length}
-use Rattle.rules.specs.TypeTable.{type_table}
+use Rattle.layout.specs.Ready.{table_in}
 use Rattle.rules.specs.Sizes.{size_of}
 use Rattle.rules.specs.Decode as D
 use Rattle.layout.specs.Ready.{Ready}
@@ -39,22 +39,16 @@ abbrev pub decreases-value : goal.decreases-value
 decreases-value l = l.depth * 1048576 + 4 * l.row + 2
 
 abbrev pub invariant-composite-loop-next : goal.invariant-composite-loop-next
-invariant-composite-loop-next l = Ready (type_table l.rows l.members l.entries) l.sizes l.alignments l.depth l.row × Walking (type_table l.rows l.members l.entries) l.bytes l.held l.depth l.row l.at l.initial.values l.initial.objects l.initial.d (record { row = 0; done = 0; at = 0 }) l.alignments l.values l.objects l.kept l.around l.level l.due l.place l.d
+invariant-composite-loop-next l = Ready (table_in l.laid) l.laid.sizes.now l.laid.alignments.now l.depth l.row × Walking (table_in l.laid) l.bytes l.held l.depth l.row l.at l.initial.values l.initial.objects l.initial.d (record { row = 0; done = 0; at = 0 }) l.laid.alignments.now l.values l.objects l.kept l.around l.level l.due l.place l.d
 
 abbrev pub decreases-composite-loop-next : goal.decreases-composite-loop-next
-decreases-composite-loop-next l = fuel l.rows l.level l.due l.place l.around
+decreases-composite-loop-next l = fuel l.laid.rows.now l.level l.due l.place l.around
 
-abbrev pub invariant-elements-loop-left : goal.invariant-elements-loop-left
-invariant-elements-loop-left l = RunLeft (reading (message (type_table l.rows l.members l.entries) l.bytes l.held)) (size_of (type_table l.rows l.members l.entries) l.row) (λ k. walk_row (type_table l.rows l.members l.entries) l.bytes l.held l.depth l.row) (l.count * size_of (type_table l.rows l.members l.entries) l.row) l.at
-    (D.elements (size_of (type_table l.rows l.members l.entries) l.row) (λ k. walk_row (type_table l.rows l.members l.entries) l.bytes l.held l.depth l.row) 0 l.count) (l.initial.values, l.initial.objects) l.initial.d (l.values, l.objects) l.d 0 l.left l.place
+abbrev pub invariant-elements-loop : goal.invariant-elements-loop
+invariant-elements-loop l = RunLeft (reading (message (table_in l.laid) l.bytes l.held)) (size_of (table_in l.laid) l.row) (λ k. walk_row (table_in l.laid) l.bytes l.held l.depth l.row) (l.count * size_of (table_in l.laid) l.row) l.at
+    (D.elements (size_of (table_in l.laid) l.row) (λ k. walk_row (table_in l.laid) l.bytes l.held l.depth l.row) 0 l.count) (l.initial.values, l.initial.objects) l.initial.d (l.values, l.objects) l.d 0 (l.count - l.counter) l.place
     × (length l.values ≡ length l.initial.values) × (length l.objects ≡ length l.initial.objects)
-
-abbrev pub decreases-elements-loop-left : goal.decreases-elements-loop-left
-decreases-elements-loop-left l = l.left
 
 abbrev pub invariant-envelopes-loop-i : goal.invariant-envelopes-loop-i
-invariant-envelopes-loop-i l = EnvelopesLeft (type_table l.rows l.members l.entries) l.bytes l.held l.depth l.row l.count l.at l.initial.values l.values l.initial.objects l.objects l.initial.d l.d l.i × (l.i ≤ l.count)
+invariant-envelopes-loop-i l = EnvelopesLeft (table_in l.laid) l.bytes l.held l.depth l.row l.count l.at l.initial.values l.values l.initial.objects l.objects l.initial.d l.d l.i × (l.i ≤ l.count)
     × (length l.values ≡ length l.initial.values) × (length l.objects ≡ length l.initial.objects)
-
-abbrev pub decreases-envelopes-loop-i : goal.decreases-envelopes-loop-i
-decreases-envelopes-loop-i l = l.count - l.i

@@ -1,16 +1,16 @@
--- `walk_leaves::planned::part` meets its contract: a law for each way that it ends.
-use borrow.Author.Rules.{rules}
+-- `walk_leaves::planned::part` meets its contract: a bool, or a number of a width that is allowed.
+use Rattle.plans.proofs.Widths.{bytes_allowed}
 use Rattle.walk_leaves.proofs.ByPlan.{part_bool, part_number, part_past}
 use Rattle.walk_leaves.proofs.planned.part.Goals as goal
 
-pub returns-then-width-eq0 : goal.returns-then-width-eq0
-returns-then-width-eq0 c = search (rules, part_bool)
+pub returns-in-Boolean : goal.returns-in-Boolean
+returns-in-Boolean c = part_bool _ _ _ _ c.in-Boolean.is c.boolean.ensures
 
-pub returns-then-values-i : goal.returns-then-values-i
-returns-then-values-i c = search (rules, part_past)
+pub returns-then-values-c : goal.returns-then-values-c
+returns-then-values-c c = part_past _ _ _ _ c.in-Bytes.is c.requires.0 c.if-values-c.true
 
 pub number-requires : goal.number-requires
-number-requires c = (c.requires.0 c.if-width-eq0.false, search rules)
+number-requires c = (bytes_allowed c.in-Bytes.is c.requires.0, c.requires.1)
 
-pub returns : goal.returns
-returns c = search (rules, part_number)
+pub returns-else-values-c : goal.returns-else-values-c
+returns-else-values-c c = part_number _ _ _ _ c.in-Bytes.is c.requires.0 c.number.ensures

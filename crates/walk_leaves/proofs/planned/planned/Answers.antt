@@ -4,39 +4,41 @@ use mathlib.Core.Path.{refl}
 use native.Mathlib.Omega.{arith}
 use borrow.Author.Rules.{rules}
 use Rattle.walk_leaves.proofs.Bools.{bools_inside, bools_ask, bools_given}
-use Rattle.nesting.proofs.Runs.{run_start, run_asks, run_next, run_stopped, run_end}
+use Rattle.nesting.proofs.Runs.{run_asks, run_stopped, run_end}
+use Rattle.nesting.proofs.Counted.{turns_start, turns_next}
+use Rattle.rules.proofs.Passing.{err_passed}
 use Rattle.walk_leaves.proofs.planned.planned.Goals as goal
 
 pub overflow_add-stop : goal.overflow_add-stop
 overflow_add-stop c =
-    let asked = c.requires.3 in
-    omega (arith, bools_inside (c.is_bool.ensures c.if-is_bool.true) c.requires.2 c.args.count asked, asked.short)
+    let asked = c.requires.2 in
+    omega (arith, bools_inside _ (c.is_bool.ensures c.if-is_bool.true) c.requires.1 c.args.count asked, asked.short)
 
-pub slice_bounds-byte_bits-end : goal.slice_bounds-byte_bits-end
-slice_bounds-byte_bits-end c = omega (arith, bools_inside (c.is_bool.ensures c.if-is_bool.true) c.requires.2 c.args.count c.requires.3)
+pub slice_bounds-bits_of-end : goal.slice_bounds-bits_of-end
+slice_bounds-bits_of-end c = omega (arith, bools_inside _ (c.is_bool.ensures c.if-is_bool.true) c.requires.1 c.args.count c.requires.2)
 
 pub numbers-requires : goal.numbers-requires
-numbers-requires c = bools_ask (c.is_bool.ensures c.if-is_bool.true) c.requires.2 c.args.count c.requires.3
+numbers-requires c = bools_ask _ (c.is_bool.ensures c.if-is_bool.true) c.requires.1 c.args.count c.requires.2
 
-pub returns-then-byte_bits-le1 : goal.returns-then-byte_bits-le1
-returns-then-byte_bits-le1 c = bools_given (c.is_bool.ensures c.if-is_bool.true) c.requires.2 _ _ _ c.byte_bits.ensures c.if-byte_bits-le1.true c.numbers.ensures
+pub returns-then-bits_of-le1 : goal.returns-then-bits_of-le1
+returns-then-bits_of-le1 c = bools_given _ (c.is_bool.ensures c.if-is_bool.true) c.requires.1 _ _ _ c.bits_of.ensures c.if-bits_of-le1.true c.numbers.ensures
 
-pub loop-left-init : goal.loop-left-init
-loop-left-init c = (run_start 0 _ _ c.requires.2 c.requires.3, refl)
+pub loop-init : goal.loop-init
+loop-init c = (turns_start _ _ c.requires.1 c.requires.2, refl)
 
 pub one-requires : goal.one-requires
-one-requires c = (c.requires.0, c.requires.1, run_asks c.loop-left.invariant.0 c.loop-left-test.true)
+one-requires c = (c.requires.0, run_asks c.loop.invariant.0 (omega arith))
 
-pub returns-in-Refused : goal.returns-in-Refused
-returns-in-Refused c = run_stopped c.loop-left.invariant.0 c.loop-left-test.true c.one.ensures c.in-Refused.is
+pub returns-in_err-d : goal.returns-in_err-d
+returns-in_err-d c = rw (err_passed c.from_residual.ensures.1) (run_stopped c.loop.invariant.0 (omega arith) c.one.ensures c.in_err-d.was)
 
 pub overflow_add-place : goal.overflow_add-place
 overflow_add-place c =
-    let a = run_asks c.loop-left.invariant.0 c.loop-left-test.true in
+    let a = run_asks c.loop.invariant.0 (omega arith) in
     omega (arith, a.inside, a.short)
 
-pub loop-left-preserved : goal.loop-left-preserved
-loop-left-preserved c = (run_next c.loop-left.invariant.0 c.loop-left-test.true c.one.ensures c.requires.2 c.in-On.is, search rules)
+pub loop-preserved : goal.loop-preserved
+loop-preserved c = (turns_next c.loop.invariant.0 (omega arith) c.one.ensures c.requires.1 c.in_ok-d.was, search rules)
 
 pub returns : goal.returns
-returns c = run_end c.loop-left.invariant.0 c.loop-left-test.false
+returns c = run_end c.loop.invariant.0 (omega arith)

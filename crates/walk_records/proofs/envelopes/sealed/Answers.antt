@@ -9,8 +9,8 @@ returns-then-zeros-fill c = λ t values objects handles h k. search (rules, fill
 pub returns-then-size-le4 : goal.returns-then-size-le4
 returns-then-size-le4 c = λ t values objects handles h k. search (rules, fill_right, c.handles_sealed.ensures)
 
-pub returns-then-load32-covered : goal.returns-then-load32-covered
-returns-then-load32-covered c = λ t values objects handles h k. search (rules, bytes_wrong)
+pub returns-then-load-covered : goal.returns-then-load-covered
+returns-then-load-covered c = λ t values objects handles h k. search (rules, bytes_wrong)
 
 pub returns : goal.returns
 returns c = λ t values objects handles h k. search (rules, bytes_right, c.handles_sealed-2.ensures)

@@ -26,5 +26,5 @@ taken-requires c =
 
 pub returns : goal.returns
 returns c =
-    λ t objects. raw_in_line t _ _ objects _ _ _ _ c.if-depth-eq0.false c.requires.free c.load32-low.ensures c.load16-handles.ensures
+    λ t objects. raw_in_line t _ _ objects _ _ _ _ c.if-depth-eq0.false c.requires.free c.load-low.ensures c.load-handles.ensures
     c.gave-first.ensures c.gave-second.ensures c.gave-third.ensures c.taken.ensures

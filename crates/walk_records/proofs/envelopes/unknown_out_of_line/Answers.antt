@@ -20,4 +20,4 @@ raw_words-requires c =
 
 pub returns : goal.returns
 returns c =
-    λ t. raw_out_of_line t _ _ _ _ _ _ _ _ _ c.if-depth-eq0.false c.load32-low.ensures c.load16-handles.ensures c.gave-first.ensures c.gave-second.ensures c.raw_words.ensures
+    λ t. raw_out_of_line t _ _ _ _ _ _ _ _ _ c.if-depth-eq0.false c.load-low.ensures c.load-handles.ensures c.gave-first.ensures c.gave-second.ensures c.raw_words.ensures

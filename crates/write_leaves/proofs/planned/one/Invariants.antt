@@ -1,14 +1,9 @@
 -- `write_leaves::planned::one` meets its contract: whoever puts the parts that are left has put them all.
 use mathlib.Core.Path.{◌≡◌}
-use Prim.Native.Nat.{◌-◌, ◌≤◌}
-use lib.ListN.{length}
-use Rattle.plans.specs.Plans.{parts_from}
+use lib.ListN.{length, drop}
 use Rattle.write_leaves.proofs.ByPlan.{PartsLeft}
 use Rattle.write_leaves.proofs.planned.one.Given as goal
 
-abbrev pub invariant-loop-i : goal.invariant-loop-i
-invariant-loop-i l =
-    PartsLeft l.values (parts_from l.widths l.fills 0 l.count) l.at l.initial.out l.initial.d l.out l.d (parts_from l.widths l.fills l.i (l.count - l.i)) l.place × (l.i ≤ l.count) × (length l.out ≡ length l.initial.out)
-
-abbrev pub decreases-loop-i : goal.decreases-loop-i
-decreases-loop-i l = l.count - l.i
+abbrev pub invariant-loop-p : goal.invariant-loop-p
+invariant-loop-p l =
+    PartsLeft l.values l.parts l.at l.initial.out l.initial.d l.out l.d (drop l.p-index l.parts) l.place × (length l.out ≡ length l.initial.out)

@@ -14,4 +14,4 @@ returns-then-most-eq18446744073709551615 c e =
     (omega arith, record { each = λ i k. omega (arith, c.shared_slice_known-1.given (c.args.from + i)) })
 
 pub returns : goal.returns
-returns c e = (omega arith, bits_within (omega arith) c.value_bits.ensures (leb-true _ _ e))
+returns c e = (omega arith, bits_within (omega arith) c.bits_of.ensures (leb-true _ _ e))

@@ -1,11 +1,7 @@
 -- `write_leaves::scalars::put_each` meets its contract. The loop's invariant: the numbers before `i` are stored, and the rules' run goes
 -- on with those that are left. Assumes nothing.
-use Prim.Native.Nat.{◌-◌}
 use Rattle.write_leaves.proofs.InLine.{Run}
 use Rattle.write_leaves.proofs.scalars.put_each.Given as goal
 
 abbrev pub invariant-loop-i : goal.invariant-loop-i
 invariant-loop-i l = Run l.values l.initial.out l.width l.count l.at l.c l.out l.i l.p
-
-abbrev pub decreases-loop-i : goal.decreases-loop-i
-decreases-loop-i l = l.count - l.i

@@ -3,40 +3,41 @@ use mathlib.Core.Path.{refl}
 use native.Mathlib.Omega.{arith}
 use borrow.Author.Rules.{rules}
 use Rattle.strict.proofs.Numbers.{row_width, row_searchable}
-use Rattle.nesting.proofs.Runs.{run_start, run_asks, run_end}
+use Rattle.nesting.proofs.Runs.{run_asks, run_end}
+use Rattle.nesting.proofs.Counted.{turns_start}
 use Rattle.write_leaves.proofs.Strict.{strict_small, strict_ended, strict_stopped, strict_next}
 use Rattle.write_leaves.proofs.strict_rows.strict_values.Goals as goal
 
 pub largest-most-requires : goal.largest-most-requires
 largest-most-requires c = row_width c.requires.0 c.a_at-width.ensures
 
-pub loop-left-init : goal.loop-left-init
-loop-left-init c = (run_start 0 _ _ refl c.requires.1, refl)
+pub loop-init : goal.loop-init
+loop-init c = (turns_start _ _ refl c.requires.1, refl)
 
 pub returns-then-values-index : goal.returns-then-values-index
-returns-then-values-index c = strict_ended c.requires.0 _ c.loop-left.invariant.0 c.loop-left-test.true c.if-values-index.true c.refused.ensures
+returns-then-values-index c = strict_ended c.requires.0 _ c.loop.invariant.0 (omega arith) c.if-values-index.true c.refused.ensures
 
 pub allows-requires : goal.allows-requires
 allows-requires c = row_searchable c.requires.0 c.kind_at-kind.ensures c.b_at-first.ensures c.c_at-named.ensures
 
 pub returns-then-not-fits : goal.returns-then-not-fits
-returns-then-not-fits c = strict_stopped c.requires.0 c.kind_at-kind.ensures c.a_at-width.ensures c.b_at-first.ensures c.c_at-named.ensures _ _ c.largest-most.ensures c.allows.ensures _ c.loop-left.invariant.0 c.loop-left-test.true c.if-values-index.false c.value_at-v.ensures c.if-not-fits.true c.refused-then-not-fits.ensures
+returns-then-not-fits c = strict_stopped c.requires.0 c.kind_at-kind.ensures c.a_at-width.ensures c.b_at-first.ensures c.c_at-named.ensures _ _ c.largest-most.ensures c.allows.ensures _ c.loop.invariant.0 (omega arith) c.if-values-index.false c.item_at-v.ensures c.if-not-fits.true c.refused-then-not-fits.ensures
 
 pub put_number-requires : goal.put_number-requires
 put_number-requires c = (row_width c.requires.0 c.a_at-width.ensures, strict_small _ _ _ _ c.largest-most.ensures c.if-not-fits.false)
 
 pub took-d-requires : goal.took-d-requires
 took-d-requires c =
-    let a = run_asks c.loop-left.invariant.0 c.loop-left-test.true in
+    let a = run_asks c.loop.invariant.0 (omega arith) in
     omega (arith, a.left)
 
 pub overflow_add-place : goal.overflow_add-place
 overflow_add-place c =
-    let a = run_asks c.loop-left.invariant.0 c.loop-left-test.true in
+    let a = run_asks c.loop.invariant.0 (omega arith) in
     omega (arith, a.inside, a.free, c.a_at-width.ensures)
 
-pub loop-left-preserved : goal.loop-left-preserved
-loop-left-preserved c = (strict_next c.requires.0 c.kind_at-kind.ensures c.a_at-width.ensures c.b_at-first.ensures c.c_at-named.ensures _ _ c.largest-most.ensures c.allows.ensures _ c.loop-left.invariant.0 c.loop-left-test.true c.if-values-index.false c.value_at-v.ensures c.if-not-fits.false c.put_number.ensures c.took-d.ensures, search rules)
+pub loop-preserved : goal.loop-preserved
+loop-preserved c = (strict_next c.requires.0 c.kind_at-kind.ensures c.a_at-width.ensures c.b_at-first.ensures c.c_at-named.ensures _ _ c.largest-most.ensures c.allows.ensures _ c.loop.invariant.0 (omega arith) c.if-values-index.false c.item_at-v.ensures c.if-not-fits.false c.put_number.ensures c.took-d.ensures, search rules)
 
 pub returns : goal.returns
-returns c = run_end c.loop-left.invariant.0 c.loop-left-test.false
+returns c = run_end c.loop.invariant.0 (omega arith)

@@ -17,8 +17,8 @@ returns-then-v-eq0 c = (search (rules, union_absent), search rules)
 
 pub returns-then-not-accepted : goal.returns-then-not-accepted
 returns-then-not-accepted c =
-    (union_unknown _ _ _ _ _ _ _ _ c.requires.0 (omega (arith, c.if-values-c.false)) c.value_at-v.ensures (search rules) c.if-v-eq0.false c.requires.2 c.ordinal_of-what.result _ c.is_known.ensures (λ t same. c.ordinal_of-what.ensures ∙ halved_content t _ _ _ same c.requires.3 c.requires.4) c.if-not-accepted.true c.fault_at-then-not-accepted.ensures, search rules)
+    (union_unknown _ _ _ _ _ _ _ _ c.requires.0 (omega (arith, c.if-values-c.false)) c.item_at-v.ensures (search rules) c.if-v-eq0.false c.requires.2 c.ordinal_of-what.result _ c.is_some.ensures (λ t same. c.ordinal_of-what.ensures ∙ halved_content t _ _ _ same c.requires.3 c.requires.4) c.if-not-accepted.true c.at-then-not-accepted.ensures, search rules)
 
 pub returns : goal.returns
 returns c =
-    (union_member _ _ _ _ _ _ _ _ c.requires.0 (omega (arith, c.if-values-c.false)) c.value_at-v.ensures (search rules) c.if-v-eq0.false c.requires.2 c.ordinal_of-what.result _ c.is_known.ensures (λ t same. c.ordinal_of-what.ensures ∙ halved_content t _ _ _ same c.requires.3 c.requires.4) c.if-not-accepted.false c.store64-2.ensures c.took-2.ensures, λ t same. rw (← c.value_at-v.ensures) (c.ordinal_of-what.ensures ∙ halved_content t _ _ _ same c.requires.3 c.requires.4))
+    (union_member _ _ _ _ _ _ _ _ c.requires.0 (omega (arith, c.if-values-c.false)) c.item_at-v.ensures (search rules) c.if-v-eq0.false c.requires.2 c.ordinal_of-what.result _ c.is_some.ensures (λ t same. c.ordinal_of-what.ensures ∙ halved_content t _ _ _ same c.requires.3 c.requires.4) c.if-not-accepted.false c.store-2.ensures c.took-2.ensures, λ t same. rw (← c.item_at-v.ensures) (c.ordinal_of-what.ensures ∙ halved_content t _ _ _ same c.requires.3 c.requires.4))

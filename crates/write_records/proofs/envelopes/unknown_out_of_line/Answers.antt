@@ -2,7 +2,9 @@
 use mathlib.Core.Path.{refl}
 use native.Mathlib.Omega.{arith}
 use borrow.Author.Rules.{rules}
-use Rattle.write_records.proofs.UnknownContent.{room, words_claimed, out_over, out_ended, out_many, plain_over, plain_put}
+use Rattle.rules.proofs.Passing.{err_passed}
+use Rattle.write_leaves.proofs.InLine.{took_held, took_some}
+use Rattle.write_records.proofs.UnknownContent.{room, words_claimed, out_over, out_ended, out_many, out_handles_over, out_put}
 use Rattle.write_records.proofs.envelopes.unknown_out_of_line.Goals as goal
 
 pub returns-then-start-whole : goal.returns-then-start-whole
@@ -14,15 +16,15 @@ returns-then-values-c c = search (rules, out_ended)
 pub returns-then-not-can_claim : goal.returns-then-not-can_claim
 returns-then-not-can_claim c = search (rules, out_many)
 
-pub overflow_add-used : goal.overflow_add-used
-overflow_add-used c =
-    omega (arith, room c.args.bytes c.value_at-handles.result c.can_claim.ensures c.if-not-can_claim.false)
+pub with_handles-requires : goal.with_handles-requires
+with_handles-requires c =
+    (omega (arith, room c.args.bytes c.item_at-handles.result c.can_claim.ensures c.if-not-can_claim.false), search (rules, took_held), search (rules, took_some))
 
-pub returns-then-used-gt64 : goal.returns-then-used-gt64
-returns-then-used-gt64 c = search (rules, plain_over)
+pub returns-in_err-d : goal.returns-in_err-d
+returns-in_err-d c = rw (err_passed c.from_residual.ensures.1) (search (rules, out_handles_over, c.in_err-d.was))
 
 pub object_of_numbers-requires : goal.object_of_numbers-requires
-object_of_numbers-requires c = (refl, search (rules, words_claimed))
+object_of_numbers-requires c = (refl, search (rules, words_claimed, c.in_ok-d.was))
 
 pub returns : goal.returns
-returns c = search (rules, plain_put)
+returns c = search (rules, out_put, c.in_ok-d.was)

@@ -6,7 +6,7 @@ use Rattle.writer.proofs.pass.after.Goals as goal
 pub returns-then-end-total : goal.returns-then-end-total
 returns-then-end-total c =
     let a = c.args in
-    simp (c.fault_at.ensures, ne_eqb a.end.index a.total (λ e. omega (arith, c.if-end-total.true)))
+    simp (c.at.ensures, ne_eqb a.end.index a.total (λ e. omega (arith, c.if-end-total.true)))
 
 pub returns : goal.returns
 returns c =

@@ -1,9 +1,0 @@
--- `list::text_room` meets its contract: a list of one value is as long as it was made. The type is written out, so that the
--- list, which is long, isn't.
-use mathlib.Core.Path.{sym}
-use Prim.Native.Nat.{ℕ}
-use Rattle.std.proofs.lemmas.List.{length-replicate}
-use Rattle.list.proofs.text_room.Goals as goal
-
-pub returns : goal.returns
-returns c = sym (length-replicate {A = ℕ} 524288 0)

@@ -1,0 +1,6 @@
+-- `words::U16Word::load` meets its contract.
+use Rattle.words.proofs.Loads.{loaded}
+use Rattle.words.proofs.U16Word.load.Goals as goal
+
+pub returns : goal.returns
+returns c = loaded _ _ _ 1 c.chunk_at.ensures c.from_le_bytes.ensures

@@ -1,0 +1,6 @@
+-- `words::U8Word::load` meets its contract.
+use Rattle.words.proofs.Loads.{loaded}
+use Rattle.words.proofs.U8Word.load.Goals as goal
+
+pub returns : goal.returns
+returns c = loaded _ _ _ 0 c.chunk_at.ensures c.from_le_bytes.ensures

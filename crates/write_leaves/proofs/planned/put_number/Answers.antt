@@ -1,7 +1,0 @@
--- `write_leaves::planned::put_number` meets its contract.
-use borrow.Author.Rules.{rules}
-use Rattle.write_leaves.proofs.ByPlan.{past_end}
-use Rattle.write_leaves.proofs.planned.put_number.Goals as goal
-
-pub returns-else-at-out : goal.returns-else-at-out
-returns-else-at-out c = search (rules, past_end)
