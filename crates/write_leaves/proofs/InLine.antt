@@ -14,6 +14,7 @@ use borrow.Author.Tests.{lt-ltb, le-ltb, le-leb, lt-leb, ne_eqb, eqb-true}
 use lib.Dec.{eqb, leb, ltb}
 use lib.ListN.{length, set, take, drop, get_or, length-append, length-drop, drop_of_length-le}
 use lib.Seq.{sets, drop-cons}
+use Rattle.rules.specs.declared.Fault.{Fault}
 use Rattle.rules.specs.declared.Place.TheVariants.{Index}
 use Rattle.rules.specs.Refusals.{fault, too_many_handles, not_a_value}
 use Rattle.rules.specs.Bytes.{bytes_of, ones32}
@@ -28,7 +29,7 @@ use Rattle.words.proofs.Bits.{part_none_above}
 use Rattle.words.proofs.Stores.{sets_append, sets_past, length_bytes_of, bytes_of_byte}
 use Rattle.rules.specs.Sound.{width_allowed}
 use Rattle.write_leaves.specs.declared.cursor.Cursor.{Cursor}
-use Rattle.write_leaves.specs.Putting.{Wrote, KeptBefore, answer, Stored, Fit, Put, PutsInLine, took_one, Stands, HandlesTaken}
+use Rattle.write_leaves.specs.Putting.{Wrote, KeptBefore, answer, Stored, Fit, Put, PutsInLine, took_one, Stands, HandlesTaken, NumberAt}
 use Rattle.write_leaves.specs.InLine.{bool_as, handle_as, numbers_as, NoneAbove}
 use Rattle.write_leaves.proofs.Kept.{kept_all, kept_sets, kept_then}
 use Rattle.write_leaves.proofs.Results.{after_none, after_after}
@@ -132,6 +133,10 @@ module _ {values out : List ℕ} {size at : ℕ} {c : Cursor} (write : ℕ → W
       → PutsInLine values out out size at c (Err (fault not_a_value (Index c.index))) (E.record_then write continue)
   record_ended s h base = rw (record_short write continue values c.index c.next c.handles h) (put_cannot not_a_value 0 c.index (omega arith))
 
+  -- The one answer where a function finds no number.
+  pub list_ended : {f : Fault} → c.index ≤ length values → NumberAt values c.index (Err f) → PutsInLine values out out size at c (Err f) (E.record_then write continue)
+  list_ended s n = rw n.1 (record_ended s n.0)
+
   module _ (v : ℕ) (h : c.index < length values) (read : v ≡ get_or values c.index 0) where
     pub record_unfit : write v ≡ unfit → PutsInLine values out out size at c (Err (fault not_a_value (Index c.index))) (E.record_then write continue)
     record_unfit w base =
@@ -155,82 +160,73 @@ module _ (values : List ℕ) (c d : Cursor) (s : Stands values c) (e : d ≡ too
 
 -- ---- bools
 
-module _ (values out : List ℕ) (at : ℕ) (c : Cursor) (s : Stands values c) where
-  pub bool_ended : {r : Wrote} → length values ≤ c.index → r ≡ Err (fault not_a_value (Index c.index)) → PutsInLine values out out 1 at c r bool_as
-  unfolding bool_as
-  bool_ended h e = rw e (record_ended (write_number 1 bool_pattern) (λ v. E.nothing) s.left h)
+module _ (values out : List ℕ) (at : ℕ) (c : Cursor) (s : Stands values c)
+    {v : ℕ} (h : c.index < length values) (read : v ≡ get_or values c.index 0) where
+  pub bool_large : {r : Wrote} → 1 < v → r ≡ Err (fault not_a_value (Index c.index)) → PutsInLine values out out 1 at c r bool_as
+  unfolding bool_as write_number
+  bool_large k e = rw e (record_unfit (write_number 1 bool_pattern) (λ v. E.nothing) v h read (either (ltb v 256) refl))
+    where
+      either : (b : Bool) → ltb v 256 ≡ b → write_number 1 bool_pattern v ≡ unfit
+      either true q = let t : leb v 1 ≡ false = lt-leb v 1 k in rw (q, t)
+      either false q = rw q
 
-  module _ {v : ℕ} (h : c.index < length values) (read : v ≡ get_or values c.index 0) where
-    pub bool_large : {r : Wrote} → 1 < v → r ≡ Err (fault not_a_value (Index c.index)) → PutsInLine values out out 1 at c r bool_as
-    unfolding bool_as write_number
-    bool_large k e = rw e (record_unfit (write_number 1 bool_pattern) (λ v. E.nothing) v h read (either (ltb v 256) refl))
-      where
-        either : (b : Bool) → ltb v 256 ≡ b → write_number 1 bool_pattern v ≡ unfit
-        either true q = let t : leb v 1 ≡ false = lt-leb v 1 k in rw (q, t)
-        either false q = rw q
-
-    pub bool_put : {out' : List ℕ} {d : Cursor} → v ≤ 1 → out' ≡ sets out at (bytes_of 1 v) → d ≡ took_one c → PutsInLine values out out' 1 at c (Ok d) bool_as
-    unfolding bool_as write_number
-    bool_put k stored e =
-        rw e (record_put (write_number 1 bool_pattern) (λ v. E.nothing) v h read (bytes_of 1 v) written (length_bytes_of 1 v) stored (nothing_put (took_stands s h)))
-      where
-        written : write_number 1 bool_pattern v ≡ put (bytes_of 1 v)
-        written =
-            let p : ltb v 256 ≡ true = lt-ltb v 256 (omega arith) in
-            let q : leb v 1 ≡ true = le-leb v 1 k in
-            rw (p, q)
+  pub bool_put : {out' : List ℕ} {d : Cursor} → v ≤ 1 → out' ≡ sets out at (bytes_of 1 v) → d ≡ took_one c → PutsInLine values out out' 1 at c (Ok d) bool_as
+  unfolding bool_as write_number
+  bool_put k stored e =
+      rw e (record_put (write_number 1 bool_pattern) (λ v. E.nothing) v h read (bytes_of 1 v) written (length_bytes_of 1 v) stored (nothing_put (took_stands s h)))
+    where
+      written : write_number 1 bool_pattern v ≡ put (bytes_of 1 v)
+      written =
+          let p : ltb v 256 ≡ true = lt-ltb v 256 (omega arith) in
+          let q : leb v 1 ≡ true = le-leb v 1 k in
+          rw (p, q)
 
 -- ---- a handle
 
-module _ (values out : List ℕ) (optional at : ℕ) (c : Cursor) (s : Stands values c) where
-  pub handle_ended : {r : Wrote} → length values ≤ c.index → r ≡ Err (fault not_a_value (Index c.index))
+module _ (values out : List ℕ) (optional at : ℕ) (c : Cursor) (s : Stands values c)
+    {v : ℕ} (h : c.index < length values) (read : v ≡ get_or values c.index 0) where
+  pub handle_large : {r : Wrote} → 1 < v → r ≡ Err (fault not_a_value (Index c.index)) → (t : TypeTable) → PutsInLine values out out 4 at c r (handle_as t (eqb optional 1))
+  unfolding handle_as write_presence
+  handle_large k e t = rw e (record_unfit (write_presence 4 ones32 (eqb optional 1)) (R.after_handle t) v h read (large v k))
+    where
+      large : (v : ℕ) → 1 < v → write_presence 4 ones32 (eqb optional 1) v ≡ unfit
+      large zero k = absurd (omega arith)
+      large (suc zero) k = absurd (omega arith)
+      large (suc (suc v)) k = refl
+
+  pub handle_required : {r : Wrote} → v ≡ 0 → (optional ≡ 1 → ⊥) → r ≡ Err (fault not_a_value (Index c.index))
       → (t : TypeTable) → PutsInLine values out out 4 at c r (handle_as t (eqb optional 1))
-  unfolding handle_as
-  handle_ended h e t = rw e (record_ended (write_presence 4 ones32 (eqb optional 1)) (R.after_handle t) s.left h)
+  unfolding handle_as write_presence
+  handle_required z o e t = rw e (record_unfit (write_presence 4 ones32 (eqb optional 1)) (R.after_handle t) v h read written)
+    where
+      written : write_presence 4 ones32 (eqb optional 1) v ≡ unfit
+      written = rw (z, ne_eqb optional 1 o)
 
-  module _ {v : ℕ} (h : c.index < length values) (read : v ≡ get_or values c.index 0) where
-    pub handle_large : {r : Wrote} → 1 < v → r ≡ Err (fault not_a_value (Index c.index)) → (t : TypeTable) → PutsInLine values out out 4 at c r (handle_as t (eqb optional 1))
-    unfolding handle_as write_presence
-    handle_large k e t = rw e (record_unfit (write_presence 4 ones32 (eqb optional 1)) (R.after_handle t) v h read (large v k))
-      where
-        large : (v : ℕ) → 1 < v → write_presence 4 ones32 (eqb optional 1) v ≡ unfit
-        large zero k = absurd (omega arith)
-        large (suc zero) k = absurd (omega arith)
-        large (suc (suc v)) k = refl
+  pub handle_absent : {out' : List ℕ} {d : Cursor} → v ≡ 0 → optional ≡ 1 → out' ≡ sets out at (bytes_of 4 0) → d ≡ took_one c
+      → (t : TypeTable) → PutsInLine values out out' 4 at c (Ok d) (handle_as t (eqb optional 1))
+  unfolding handle_as write_presence
+  handle_absent z o stored e t =
+      rw e (record_put (write_presence 4 ones32 (eqb optional 1)) (R.after_handle t) 0 h (sym z ∙ read) (bytes_of 4 0) written (length_bytes_of 4 0) stored (nothing_put (took_stands s h)))
+    where
+      written : write_presence 4 ones32 (eqb optional 1) 0 ≡ put (bytes_of 4 0)
+      written = rw o
 
-    pub handle_required : {r : Wrote} → v ≡ 0 → (optional ≡ 1 → ⊥) → r ≡ Err (fault not_a_value (Index c.index))
-        → (t : TypeTable) → PutsInLine values out out 4 at c r (handle_as t (eqb optional 1))
-    unfolding handle_as write_presence
-    handle_required z o e t = rw e (record_unfit (write_presence 4 ones32 (eqb optional 1)) (R.after_handle t) v h read written)
-      where
-        written : write_presence 4 ones32 (eqb optional 1) v ≡ unfit
-        written = rw (z, ne_eqb optional 1 o)
+  pub handle_taken : {out' : List ℕ} {d : Cursor} {r : Wrote} → v ≤ 1 → (v ≡ 0 → ⊥) → out' ≡ sets out at (bytes_of 4 ones32) → d ≡ took_one c → HandlesTaken 1 d r
+      → (t : TypeTable) → PutsInLine values out out' 4 at c r (handle_as t (eqb optional 1))
+  unfolding handle_as write_presence
+  handle_taken {out'} k z stored e p t =
+      let one : v ≡ 1 = below_two v k z in
+      let q : HandlesTaken 1 (took_one c) _ = rw e at p in
+      record_put (write_presence 4 ones32 (eqb optional 1)) (R.after_handle t) 1 h (sym one ∙ read) (bytes_of 4 ones32) written (length_bytes_of 4 ones32) stored
+      (λ base. q values out' at base (took_stands s h))
+    where
+      below_two : (v : ℕ) → v ≤ 1 → (v ≡ 0 → ⊥) → v ≡ 1
+      below_two zero k z = absurd (z refl)
+      below_two (suc zero) k z = refl
+      below_two (suc (suc v)) k z = absurd (omega arith)
 
-    pub handle_absent : {out' : List ℕ} {d : Cursor} → v ≡ 0 → optional ≡ 1 → out' ≡ sets out at (bytes_of 4 0) → d ≡ took_one c
-        → (t : TypeTable) → PutsInLine values out out' 4 at c (Ok d) (handle_as t (eqb optional 1))
-    unfolding handle_as write_presence
-    handle_absent z o stored e t =
-        rw e (record_put (write_presence 4 ones32 (eqb optional 1)) (R.after_handle t) 0 h (sym z ∙ read) (bytes_of 4 0) written (length_bytes_of 4 0) stored (nothing_put (took_stands s h)))
-      where
-        written : write_presence 4 ones32 (eqb optional 1) 0 ≡ put (bytes_of 4 0)
-        written = rw o
-
-    pub handle_taken : {out' : List ℕ} {d : Cursor} {r : Wrote} → v ≤ 1 → (v ≡ 0 → ⊥) → out' ≡ sets out at (bytes_of 4 ones32) → d ≡ took_one c → HandlesTaken 1 d r
-        → (t : TypeTable) → PutsInLine values out out' 4 at c r (handle_as t (eqb optional 1))
-    unfolding handle_as write_presence
-    handle_taken {out'} k z stored e p t =
-        let one : v ≡ 1 = below_two v k z in
-        let q : HandlesTaken 1 (took_one c) _ = rw e at p in
-        record_put (write_presence 4 ones32 (eqb optional 1)) (R.after_handle t) 1 h (sym one ∙ read) (bytes_of 4 ones32) written (length_bytes_of 4 ones32) stored
-        (λ base. q values out' at base (took_stands s h))
-      where
-        below_two : (v : ℕ) → v ≤ 1 → (v ≡ 0 → ⊥) → v ≡ 1
-        below_two zero k z = absurd (z refl)
-        below_two (suc zero) k z = refl
-        below_two (suc (suc v)) k z = absurd (omega arith)
-
-        written : write_presence 4 ones32 (eqb optional 1) 1 ≡ put (bytes_of 4 ones32)
-        written = refl
+      written : write_presence 4 ones32 (eqb optional 1) 1 ≡ put (bytes_of 4 ones32)
+      written = refl
 
 -- ---- widths
 
@@ -291,23 +287,19 @@ module _ (width : ℕ) (values : List ℕ) (i next used : ℕ) where
         let t : ltb v (256 ^ width) ≡ true = lt-ltb v (256 ^ width) k in
         record_at (write_number width any_pattern) (λ v. E.nothing) values i next used h ∙ rw (← read, t, append-nil)
 
-module _ (values out : List ℕ) (width at : ℕ) (c : Cursor) (s : Stands values c) where
-  pub number_ended : {r : Wrote} → length values ≤ c.index → r ≡ Err (fault not_a_value (Index c.index)) → PutsInLine values out out width at c r (encode_word width)
-  unfolding encode_word
-  number_ended h e = rw e (record_ended (write_number width any_pattern) (λ v. E.nothing) s.left h)
+module _ (values out : List ℕ) (width at : ℕ) (c : Cursor) (s : Stands values c)
+    {v : ℕ} (most : ℕ) (l : most + 1 ≡ 256 ^ width) (h : c.index < length values) (read : v ≡ get_or values c.index 0) where
+  pub number_large : {r : Wrote} → most < v → r ≡ Err (fault not_a_value (Index c.index)) → PutsInLine values out out width at c r (encode_word width)
+  unfolding encode_word write_number
+  number_large k e =
+      let t : ltb v (256 ^ width) ≡ false = le-ltb v (256 ^ width) (omega arith) in
+      rw e (record_unfit (write_number width any_pattern) (λ v. E.nothing) v h read (rw t))
 
-  module _ {v : ℕ} (most : ℕ) (l : most + 1 ≡ 256 ^ width) (h : c.index < length values) (read : v ≡ get_or values c.index 0) where
-    pub number_large : {r : Wrote} → most < v → r ≡ Err (fault not_a_value (Index c.index)) → PutsInLine values out out width at c r (encode_word width)
-    unfolding encode_word write_number
-    number_large k e =
-        let t : ltb v (256 ^ width) ≡ false = le-ltb v (256 ^ width) (omega arith) in
-        rw e (record_unfit (write_number width any_pattern) (λ v. E.nothing) v h read (rw t))
-
-    pub number_put : {out' : List ℕ} {d : Cursor} → v ≤ most → out' ≡ sets out at (bytes_of width v) → d ≡ took_one c → PutsInLine values out out' width at c (Ok d) (encode_word width)
-    unfolding encode_word write_number
-    number_put k stored e =
-        let t : ltb v (256 ^ width) ≡ true = lt-ltb v (256 ^ width) (omega arith) in
-        rw e (record_put (write_number width any_pattern) (λ v. E.nothing) v h read (bytes_of width v) (rw t) (length_bytes_of width v) stored (nothing_put (took_stands s h)))
+  pub number_put : {out' : List ℕ} {d : Cursor} → v ≤ most → out' ≡ sets out at (bytes_of width v) → d ≡ took_one c → PutsInLine values out out' width at c (Ok d) (encode_word width)
+  unfolding encode_word write_number
+  number_put k stored e =
+      let t : ltb v (256 ^ width) ≡ true = lt-ltb v (256 ^ width) (omega arith) in
+      rw e (record_put (write_number width any_pattern) (λ v. E.nothing) v h read (bytes_of width v) (rw t) (length_bytes_of width v) stored (nothing_put (took_stands s h)))
 
 -- ---- runs of numbers
 
@@ -382,9 +374,9 @@ module _ (values before : List ℕ) (width count at : ℕ) (c : Cursor) (out : L
         from : (n m : ℕ) → n ≡ suc m → E.after run.bytes [] (words width i n (drop (c.index + i) values) c.next c.handles) ≡ cannot number left
         from n m f = rw (f, e)
 
-    pub run_ended : {r : Wrote} → length values ≤ c.index + i → r ≡ Err (fault not_a_value (Index (c.index + i)))
-        → PutsInLine values before out (count * width) at c r (numbers_as width count)
-    run_ended h e base = rw (e, halted not_a_value 0 (word_short width values (c.index + i) c.next c.handles h)) (put_refused not_a_value 0 (c.index + i) (omega (arith, run.reached)) kept)
+    pub run_ended : {f : Fault} {r : Wrote} → NumberAt values (c.index + i) (Err f) → r ≡ Err f → PutsInLine values before out (count * width) at c r (numbers_as width count)
+    run_ended n e base =
+        rw (e, n.1, halted not_a_value 0 (word_short width values (c.index + i) c.next c.handles n.0)) (put_refused not_a_value 0 (c.index + i) (omega (arith, run.reached, n.0)) kept)
 
     module _ {v : ℕ} (h : c.index + i < length values) (read : v ≡ get_or values (c.index + i) 0) where
       pub run_large : (most : ℕ) {r : Wrote} → most + 1 ≡ 256 ^ width → most < v → r ≡ Err (fault not_a_value (Index (c.index + i)))

@@ -4,7 +4,7 @@ use Rattle.std.specs.Prelude.{if◌then◌else◌, Err}
 use mathlib.Core.Bool.{Bool, true, false, ◌&&◌}
 use mathlib.Core.List.{List}
 use mathlib.Core.Path.{◌≡◌, refl, sym}
-use Prim.Native.Nat.{ℕ, ◌+◌, ◌-◌, ◌*◌, ◌^◌, ◌≤◌, ◌<◌}
+use Prim.Native.Nat.{ℕ, ◌+◌, ◌-◌, ◌*◌, ◌^◌, ◌<◌}
 use native.Mathlib.Omega.{arith}
 use borrow.Author.Tests.{lt-ltb, le-ltb, leb-true, leb-false}
 use lib.Dec.{leb, ltb}
@@ -26,7 +26,7 @@ use Rattle.write_leaves.specs.declared.cursor.Cursor.{Cursor}
 use Rattle.write_leaves.specs.Putting.{Wrote, took_one}
 use Rattle.write_leaves.specs.InLine.{strict_as}
 use Rattle.write_leaves.specs.Planning.{PutAsked}
-use Rattle.write_leaves.proofs.InLine.{record_ended, record_unfit, record_put, took_stands, nothing_put}
+use Rattle.write_leaves.proofs.InLine.{record_unfit, record_put, took_stands, nothing_put}
 use Rattle.write_leaves.proofs.Leading.{ask_stands}
 use Rattle.nesting.proofs.Counted.{turns_next}
 use Rattle.write_leaves.proofs.Writing.{writing_any}
@@ -77,14 +77,6 @@ module _ {rows entries : List ℕ} {row : ℕ} (sound : StrictRow rows entries r
         rw t (turns_next run more
         (λ base a. record_put (write_number (a_in rows row) (strict_pattern rows entries row)) (λ v. E.nothing) v h read (bytes_of (a_in rows row) v) (written e) (length_bytes_of (a_in rows row) v)
         (rw w at stored) (nothing_put (took_stands (ask_stands a) h)) base) (sym w) refl)
-
--- The list ended early.
-pub strict_ended : {rows entries : List ℕ} {row : ℕ} → StrictRow rows entries row → (values : List ℕ) {grow at left place : ℕ} {whole : Encoder} {o : List ℕ} {c : Cursor} {out : List ℕ} {d : Cursor} {r : Wrote}
-    → RunLeft (writing_any values) (a_in rows row) (λ i. strict_as rows entries row) grow at whole o c out d 0 left place → 0 < left
-    → length values ≤ d.index → r ≡ Err (fault not_a_value (Index d.index)) → PutAsked values o out grow at c r whole
-unfolding strict_as
-strict_ended {rows} {entries} {row} sound values run more h z =
-    rw z (run_stopped run more (λ base a. record_ended (write_number (a_in rows row) (strict_pattern rows entries row)) (λ v. E.nothing) a.left h base) refl)
 
 -- A value by itself is a run of one.
 pub strict_alone : (rows entries values : List ℕ) (row : ℕ) {at : ℕ} {out out' : List ℕ} {c : Cursor} {r : Wrote}

@@ -1,10 +1,10 @@
 -- How the code's answers and its output stand to the rules' writer.
 -- Assumes nothing.
-use Rattle.std.specs.Prelude.{List, ◌≡◌, ℕ, ◌+◌, ◌-◌, ◌≤◌, length, take, drop, Result, Err, Ok}
+use Rattle.std.specs.Prelude.{List, ◌≡◌, ℕ, ◌+◌, ◌-◌, ◌≤◌, ◌<◌, length, take, drop, get_or, Result, Err, Ok}
 use Rattle.std.proofs.lemmas.List.Edits.{sets}
 use Rattle.rules.specs.declared.Fault.{Fault}
 use Rattle.rules.specs.declared.Place.TheVariants.{Index}
-use Rattle.rules.specs.Refusals.{fault}
+use Rattle.rules.specs.Refusals.{fault, not_a_value}
 use Rattle.rules.specs.Encode.{Encoded, wrote, cannot, Encoder, take_handles}
 use Rattle.write_leaves.specs.declared.cursor.Cursor.{Cursor}
 
@@ -63,6 +63,11 @@ cursor_at next handles index = record { next = next; handles = handles; index = 
 -- The cursor after one more number.
 abbrev pub took_one : Cursor → Cursor
 took_one c = record { next = c.next; handles = c.handles; index = c.index + 1 }
+
+-- The number at an index of the list, or 26 where the list has ended.
+abbrev pub NumberAt : (values : List ℕ) (index : ℕ) → Result ℕ Fault → Type 0
+NumberAt values index (Ok v) = (index < length values) × (v ≡ get_or values index 0)
+NumberAt values index (Err f) = (length values ≤ index) × (f ≡ fault not_a_value (Index index))
 
 -- Where the writer may stand.
 pub record Stands (values : List ℕ) (c : Cursor) : Type 0 where

@@ -4,7 +4,7 @@ ghost use Rattle.std.proofs.lemmas.List.Edits.{sets};
 ghost use Rattle.rules.specs.Refusals.{fault, number_of};
 ghost use Rattle.rules.specs.Bytes.{zeros};
 ghost use Rattle.rules.specs.Encode.{take_handles};
-ghost use Rattle.write_leaves.specs.Putting.{took_one, Stands, HandlesTaken};
+ghost use Rattle.write_leaves.specs.Putting.{took_one, Stands, HandlesTaken, NumberAt};
 
 use rules::{Fault, Place, Refusal};
 use words::Word;
@@ -21,6 +21,17 @@ pub fn refused(refusal: Refusal, index: usize) -> Result<Cursor, Fault>
     ensures { result ≡ Err (fault (number_of refusal) (Place.Index index)) }
 {
     Err(refusal.at(Place::Index(index)))
+}
+
+// The number at an index: 26 where the list has ended. Inlined, since the loops of runs are made of it.
+#[inline(always)]
+pub(crate) fn number_at(values: &[u64], index: usize) -> Result<u64, Fault>
+    ensures { NumberAt values.now index result }
+{
+    if values.len() <= index {
+        return Err(Refusal::NotAValue.at(Place::Index(index)));
+    }
+    Ok(values[index])
 }
 
 // The cursor after one more number.

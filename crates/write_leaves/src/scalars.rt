@@ -8,7 +8,7 @@ ghost use Rattle.rules.specs.Sound.{width_allowed};
 ghost use Rattle.write_leaves.specs.Putting.{Stands, PutsInLine};
 ghost use Rattle.write_leaves.specs.InLine.{bool_as, handle_as, numbers_as, NoneAbove};
 
-use crate::cursor::{Cursor, refused, took, with_handles};
+use crate::cursor::{Cursor, number_at, refused, took, with_handles};
 use rules::{Fault, Refusal};
 use words::Word;
 
@@ -16,10 +16,7 @@ pub fn boolean(values: &[u64], out: &mut [u8], at: usize, c: Cursor) -> Result<C
     requires { Stands values.now c }
     ensures { PutsInLine values.now out.old out.new 1 at c result bool_as }
 {
-    if values.len() <= c.index {
-        return refused(Refusal::NotAValue, c.index);
-    }
-    let v = words::item_at(values, c.index);
+    let v = number_at(values, c.index)?;
     if 1 < v {
         return refused(Refusal::NotAValue, c.index);
     }
@@ -79,10 +76,7 @@ pub fn number(
     requires { (width_allowed width ≡ true) × Stands values.now c }
     ensures { PutsInLine values.now out.old out.new width at c result (encode_word width) }
 {
-    if values.len() <= c.index {
-        return refused(Refusal::NotAValue, c.index);
-    }
-    let v = words::item_at(values, c.index);
+    let v = number_at(values, c.index)?;
     if largest(width) < v {
         return refused(Refusal::NotAValue, c.index);
     }
@@ -101,10 +95,7 @@ pub fn handle(
     requires { Stands values.now c }
     ensures { (t : TypeTable) → PutsInLine values.now out.old out.new 4 at c result (handle_as t (eqb optional 1)) }
 {
-    if values.len() <= c.index {
-        return refused(Refusal::NotAValue, c.index);
-    }
-    let v = words::item_at(values, c.index);
+    let v = number_at(values, c.index)?;
     if 1 < v {
         return refused(Refusal::NotAValue, c.index);
     }
@@ -180,10 +171,7 @@ fn put_each(
     let mut p = at;
     for i in 0..count {
         let index = c.index + i;
-        if values.len() <= index {
-            return refused(Refusal::NotAValue, index);
-        }
-        let v = words::item_at(values, index);
+        let v = number_at(values, index)?;
         if most < v {
             return refused(Refusal::NotAValue, index);
         }

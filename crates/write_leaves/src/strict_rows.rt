@@ -7,7 +7,7 @@ ghost use Rattle.write_leaves.specs.Putting.{Ask};
 ghost use Rattle.write_leaves.specs.InLine.{strict_as};
 ghost use Rattle.write_leaves.specs.Planning.{PutAsked};
 
-use crate::cursor::{Cursor, refused, took};
+use crate::cursor::{Cursor, number_at, refused, took};
 use crate::scalars::{largest, put_number};
 use rules::{Fault, Refusal};
 
@@ -35,10 +35,7 @@ pub fn strict_values(
     let mut place = at;
     for _ in 0..count {
         let index = d.index;
-        if values.len() <= index {
-            return refused(Refusal::NotAValue, index);
-        }
-        let v = words::item_at(values, index);
+        let v = number_at(values, index)?;
         let fits = (v <= most) & strict::allows(entries, kind, first, named, v);
         if !fits {
             return refused(Refusal::NotAValue, index);
