@@ -186,16 +186,18 @@ fn room_of(room: u64, most: usize) -> usize
     room.min(most as u64) as usize
 }
 
-// Whether a list that was lent full of ones holds just these numbers, and ones after them.
+// Whether a list that was lent full of ones holds just these numbers, and ones after them. Those are most of it, and are looked at without
+// a branch for each.
 fn holds<T: Copy + Into<u64>>(list: &[T], ones: T, given: &[u64]) -> bool {
     given.len() <= list.len()
         && list[..given.len()]
             .iter()
             .zip(given)
             .all(|(held, number)| (*held).into() == *number)
-        && list[given.len()..]
-            .iter()
-            .all(|held| (*held).into() == ones.into())
+        && list[given.len()..].iter().fold(
+            true,
+            |right, held| right & ((*held).into() == ones.into()),
+        )
 }
 
 // An object list as wide as the numbers of a case: all ones stay all ones.

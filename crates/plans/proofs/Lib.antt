@@ -1,3 +1,4 @@
+pub mod Padding
 pub mod Planning
 pub mod Widths
 pub mod Plans

@@ -9,11 +9,12 @@ use Prim.Native.Nat.{ℕ, suc, ◌+◌, ◌-◌, ◌*◌, ◌≤◌, ◌<◌}
 use native.Mathlib.Omega.{arith}
 use borrow.Author.Tests.{le-leb, lt-leb}
 use lib.Dec.{leb}
-use lib.ListN.{length, set, take, length-set}
+use lib.ListN.{length, set, take, drop, length-set}
 use Rattle.plans.specs.declared.Width.{Width}
 use Rattle.plans.specs.declared.Part.{Part}
 use Rattle.nesting.specs.Nesting.{next_part, next_place}
-use Rattle.plans.specs.Plans.{width_bytes, flat_width, after, flat_from}
+use Rattle.plans.specs.Plans.{width_bytes, flat_width, after, flat_from, PartsPut}
+use Rattle.plans.proofs.Padding.{past_more}
 use Rattle.plans.proofs.Widths.{bytes_most}
 
 -- The parts so far, and others after them.
@@ -28,33 +29,34 @@ one_part_before : (parts : List Part) (part : Part) (left : Option (List Part)) 
 one_part_before parts part None = refl
 one_part_before parts part (Some rest) = ap Some (sym (append_assoc parts (part ∷ []) rest))
 
-module _ (rows members alignments : List ℕ) (row count : ℕ) where
+module _ (rows members alignments : List ℕ) (row count : ℕ) (lent : List Part) where
   -- What is planned so far, and then what is left, is the whole, unless something is left that is not flat.
   pub record Planning (parts : List Part) (place i : ℕ) : Type 0 where
     pub few : i ≤ count
     pub room : length parts ≡ 16
     pub near : place ≤ i * 16
+    pub past : drop i parts ≡ drop i lent
     pub whole : flat_from rows members alignments row 0 0 count ≡ with_rest (take i parts) (flat_from rows members alignments row i place (count - i))
 
-  pub planning_start : (parts : List Part) → length parts ≡ 16 → Planning parts 0 0
-  planning_start parts h =
+  pub planning_start : length lent ≡ 16 → Planning lent 0 0
+  planning_start h =
       let n : count - 0 ≡ count = omega arith in
-      record { few = omega arith; room = h; near = omega arith; whole = rw n (no_parts_before (flat_from rows members alignments row 0 0 count)) }
+      record { few = omega arith; room = h; near = omega arith; past = refl; whole = rw n (no_parts_before (flat_from rows members alignments row 0 0 count)) }
 
   module _ {parts : List Part} {place i : ℕ} (p : Planning parts place i) where
-    pub planning_end : i ≡ count → Some (take count parts) ≡ flat_from rows members alignments row 0 0 count
+    pub planning_end : i ≡ count → count ≤ 16 → PartsPut (flat_from rows members alignments row 0 0 count) lent (Some count) parts
     unfolding flat_from
-    planning_end h =
+    planning_end h few =
         let n : count - i ≡ 0 = omega arith in
         let all : flat_from rows members alignments row 0 0 count ≡ Some (take i parts ++ []) = p.whole ∙ rw n in
-        rw (all, append-nil (take i parts), h)
+        (few, all ∙ rw (append-nil (take i parts), h), rw h at p.past)
 
     module _ (more : i < count) {part : ℕ} {found : Option Width} (q : part ≡ next_part rows members (after rows members alignments row i)) (w : found ≡ flat_width rows part) where
-      pub planning_other : found ≡ None → None ≡ flat_from rows members alignments row 0 0 count
+      pub planning_other : found ≡ None → flat_from rows members alignments row 0 0 count ≡ None
       unfolding flat_from
       planning_other e =
           let n : count - i ≡ suc (count - (i + 1)) = omega arith in
-          sym (p.whole ∙ rw (n, ← q, ← w, e))
+          p.whole ∙ rw (n, ← q, ← w, e)
 
       module _ {width : Width} (flat : found ≡ Some width) (few : count ≤ 16) {size next fill : ℕ} (s : size ≡ width_bytes width)
           (n : next ≡ next_place rows members (after rows members alignments row i) alignments (place + size)) (f : fill ≡ next - (place + size)) where
@@ -63,8 +65,8 @@ module _ (rows members alignments : List ℕ) (row count : ℕ) where
         unfolding flat_from
         left_flat = let m : count - i ≡ suc (count - (i + 1)) = omega arith in rw (m, ← q, ← w, flat, ← s, ← n, ← f)
 
-        pub planning_far : 8 < fill → None ≡ flat_from rows members alignments row 0 0 count
-        planning_far h = sym (p.whole ∙ rw (left_flat, lt-leb fill 8 h))
+        pub planning_far : 8 < fill → flat_from rows members alignments row 0 0 count ≡ None
+        planning_far h = p.whole ∙ rw (left_flat, lt-leb fill 8 h)
 
         pub planning_more : fill ≤ 8 → Planning (set parts i (record { width = width; fill = fill })) next (i + 1)
         planning_more h =
@@ -73,6 +75,7 @@ module _ (rows members alignments : List ℕ) (row count : ℕ) where
             record {
               few = omega arith;
               room = rw (length-set) p.room;
+              past = past_more parts lent i made p.past;
               near = omega (arith, p.near, s, bytes_most rows part (sym w ∙ flat));
               whole = p.whole ∙ rw (left_flat, le-leb fill 8 h, take_more_set parts i made room) (one_part_before (take i parts) made left);
             }

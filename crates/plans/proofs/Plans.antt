@@ -6,13 +6,14 @@ use Rattle.std.proofs.lemmas.List.Elements.{All-nil, All-cons}
 use Rattle.std.proofs.lemmas.Option.{option_and_then_some}
 use mathlib.Core.Bool.{Bool, true, false, ◌&&◌}
 use mathlib.Core.List.{List, [], ◌∷◌}
-use mathlib.Core.Path.{◌≡◌, refl, ◌∙◌}
-use Prim.Native.Nat.{ℕ, zero, suc, ◌+◌, ◌-◌, ◌<◌}
+use mathlib.Core.Path.{◌≡◌, refl, ap, ◌∙◌}
+use Prim.Native.Nat.{ℕ, zero, suc, ◌+◌, ◌-◌, ◌≤◌, ◌<◌}
 use native.Mathlib.Omega.{arith}
-use borrow.Author.Tests.{lt-ltb, ltb-true, eq-eqb, ne_eqb, eqb-true}
+use borrow.Author.Tests.{lt-ltb, ltb-true, leb-true, eq-eqb, ne_eqb, eqb-true}
 use lib.Dec.{leb, ltb, eqb}
+use lib.ListN.{length}
 use Rattle.rules.specs.Refusals.{accepted}
-use Rattle.rules.specs.TypeTable.{TypeTable, row_count, kind_at, a_at, b_at, member_rows}
+use Rattle.rules.specs.TypeTable.{TypeTable, kind_in, b_in, row_count, kind_at, a_at, b_at, member_rows}
 use Rattle.rules.specs.Sizes.{Field, field, layout_of, size_of, fields_of, fields_size}
 use Rattle.rules.specs.Sound.{soundness, width_allowed}
 use Rattle.layout.specs.Answers.{kept_alignments}
@@ -26,7 +27,7 @@ use Rattle.nesting.proofs.Starts.{struct_fields_lem, struct_size_lem, members_be
 use Rattle.plans.specs.declared.Width.{Width}
 use Rattle.plans.specs.declared.Width.TheVariants.{Boolean, Bytes}
 use Rattle.plans.specs.declared.Part.{Part}
-use Rattle.plans.specs.Plans.{width_bytes, parts_size, runnable, PartRuns, Runnable, number_width, flat_width, after, flat_from, plan_of}
+use Rattle.plans.specs.Plans.{width_bytes, no_part, parts_size, runnable, PartRuns, Runnable, number_width, flat_width, after, flat_from, plan_of}
 use Rattle.plans.proofs.Widths.{bytes_laid}
 
 -- The width that stands for a row.
@@ -96,6 +97,39 @@ first_part : {P : Type 0} (near : Bool) (part : Part) (left : Option (List Part)
 first_part true part None same k = cc
 first_part true part (Some rest) same k = k rest refl (cc)
 first_part false part left same k = cc
+
+module _ (rows members alignments : List ℕ) (row : ℕ) where
+  all_left : (left done place : ℕ) {parts : List Part} → flat_from rows members alignments row done place left ≡ Some parts → length parts ≡ left
+  unfolding flat_from
+  all_left zero done place {parts} e = let nothing : [] ≡ parts = cc in rw (← nothing) refl
+  all_left (suc left) done place e =
+      let l = after rows members alignments row done in
+      option_and_then_some {A = Width} _ (flat_width rows (next_part rows members l)) _ e (λ width w h.
+      let stop = place + width_bytes width in
+      let next = next_place rows members l alignments stop in
+      first_part (leb (next - stop) 8) (record { width = width; fill = next - stop }) (flat_from rows members alignments row (done + 1) next left) h
+      (λ rest later same. rw (← same) (ap suc (all_left left (done + 1) next later))))
+
+  -- A plan has no more parts than it has room for.
+  pub plan_few : {parts : List Part} → plan_of rows members alignments row ≡ Some parts → length parts ≤ 16
+  plan_few {parts} = go (leb 256 row) (eqb (kind_in rows row) 1) (eqb (kind_in rows row) 7) (ltb 0 count) (leb count 16) refl
+    where
+      count : ℕ
+      count = b_in rows row
+
+      go : (past bool struct some few : Bool) → leb count 16 ≡ few
+          → (if past then None
+          else if bool then Some (no_part ∷ [])
+          else if struct && (some && few) then flat_from rows members alignments row 0 0 count
+          else None)
+          ≡ Some parts
+          → length parts ≤ 16
+      go true bool struct some few f e = cc
+      go false true struct some few f e = let alone : no_part ∷ [] ≡ parts = cc in rw (← alone) (omega arith)
+      go false false true true true f e = omega (arith, all_left count 0 0 e, leb-true count 16 f)
+      go false false true true false f e = cc
+      go false false true false few f e = cc
+      go false false false some few f e = cc
 
 module _ (t : TypeTable) (alignments : List ℕ) (row : ℕ) (sound : soundness t ≡ accepted tt) (kept : alignments ≡ kept_alignments t) (in_use : row < row_count t) (few : row < 256)
     (kind : kind_at t row ≡ 7) (some : 0 < b_at t row) where

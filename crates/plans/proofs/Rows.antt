@@ -1,7 +1,7 @@
 -- What a side makes of the rows of a type table, and what follows for their parts: structs and arrays may be taken apart, and flat
 -- values go by their plan.
 -- Assumes nothing.
-use Rattle.std.specs.Prelude.{Option, Some}
+use Rattle.std.specs.Prelude.{Some}
 use mathlib.Core.Bool.{true}
 use mathlib.Core.List.{List}
 use mathlib.Core.Path.{◌≡◌, refl, sym, subst, ◌∙◌}
@@ -73,11 +73,11 @@ module _ {A : Algebra} {t : TypeTable} {inner width : ℕ → A.Part} (rows : Ro
   row_flat used (bool_row e) = rows.bool _ e ∙ sym (run_alone A width_layout width 0)
   row_flat {row} used (struct_row kind some fs) = rows.struct row used kind some ∙ all_flat_lem fs
 
--- A plan that was made, and its parts as they are lent.
-module _ {t : TypeTable} {sizes alignments : List ℕ} {depth row : ℕ} (ready : Ready t sizes alignments depth row) {made : Option (List Part)} (m : made ≡ plan_of t.rows t.members alignments row)
-    {plan : List Part} (some : made ≡ Some plan) {parts : List Part} (lent : parts ≡ plan) {size : ℕ} (s : size ≡ get_or sizes row 0) where
+-- The parts of a plan that was made.
+module _ {t : TypeTable} {sizes alignments : List ℕ} {depth row : ℕ} (ready : Ready t sizes alignments depth row) {parts : List Part} (made : plan_of t.rows t.members alignments row ≡ Some parts)
+    {size : ℕ} (s : size ≡ get_or sizes row 0) where
   flat : FlatRow t row parts
-  flat = rw lent (plan_flat ready (sym m ∙ some))
+  flat = plan_flat ready made
 
   sized : size_of t row ≡ size
   sized = row_size ready row ready.in_use s

@@ -1,6 +1,6 @@
 -- Flat values: a bool, or a struct of bools and numbers alone. A plan is a list of their parts.
 -- Assumes nothing.
-use Rattle.std.specs.Prelude.{Bool, true, ◌&&◌, ◌≡◌, All, List, [], ◌∷◌, map, ℕ, zero, suc, ◌+◌, ◌-◌, leb, ltb, eqb, if◌then◌else◌, Option, Some, None}
+use Rattle.std.specs.Prelude.{Bool, true, ◌&&◌, ◌≡◌, All, List, [], ◌∷◌, ◌++◌, map, length, take, drop, replicate, ℕ, zero, suc, ◌+◌, ◌-◌, ◌≤◌, leb, ltb, eqb, if◌then◌else◌, Option, Some, None, MatchOption}
 use Rattle.std.specs.Option.{option_map, option_and_then}
 use Rattle.rules.specs.declared.Layout.{Layout}
 use Rattle.rules.specs.Sizes.{Field, field, layout, fields_size}
@@ -27,6 +27,14 @@ PartRuns part = runnable part.width ≡ true
 
 abbrev pub Runnable : List Part → Type 0
 Runnable parts = All PartRuns parts
+
+-- What stands where a plan has no part.
+abbrev pub no_part : Part
+no_part = record { width = Boolean; fill = 0 }
+
+-- The 16 parts of an array whose first ones are these.
+abbrev pub padded : List Part → List Part
+padded parts = parts ++ replicate (16 - length parts) no_part
 
 -- ---- parts as the rules' fields, whose rows are numbers: a number's row is its bytes, a bool's is 0
 
@@ -89,3 +97,8 @@ module _ (rows members alignments : List ℕ) (row : ℕ) where
       else if eqb (kind_in rows row) 1 then Some (record { width = Boolean; fill = 0 } ∷ [])
       else if eqb (kind_in rows row) 7 && (ltb 0 (b_in rows row) && leb (b_in rows row) 16) then flat_from 0 0 (b_in rows row)
       else None
+
+-- A plan whose parts are put into an array that was lent, from its start on: they are counted, and past them the array is as it was.
+abbrev pub PartsPut : Option (List Part) → (lent : List Part) → Option ℕ → (after : List Part) → Type 0
+PartsPut plan lent count after =
+    MatchOption count (plan ≡ None) (λ n. (n ≤ 16) × (plan ≡ Some (take n after)) × (drop n after ≡ drop n lent))

@@ -2,7 +2,7 @@
 #![tactic(auto)]
 
 ghost use Rattle.std.specs.Prelude.{◌≡◌, ◌-◌, ◌≤◌, ◌<◌};
-ghost use Rattle.plans.specs.Plans.{number_width, flat_width, width_bytes, flat_from, plan_of};
+ghost use Rattle.plans.specs.Plans.{number_width, flat_width, width_bytes, flat_from, plan_of, PartsPut};
 
 use nesting::{Level, next_part, next_place};
 use std::marker::Model;
@@ -33,23 +33,36 @@ pub struct Part {
     pub fill: u32,
 }
 
+// What stands after a plan's parts, to the end of its array.
+pub const NO_PART: Part = Part {
+    width: Width::Boolean,
+    fill: 0,
+};
+
 // The parts of a value of bools and numbers alone, made once for many of them: so many of an array of fixed size, as no
 // memory is asked for.
-#[derive(Drop)]
+#[derive(Clone, Copy)]
 pub struct Plan {
     parts: [Part; 16],
     count: usize,
 }
 
+// What follows the parts is fixed, so that a plan can be copied: its fields follow from the list.
 impl Model for Plan {
-    ghost use Rattle.std.specs.Prelude.{List, take, ◌≤◌};
+    ghost use Rattle.std.specs.Prelude.{List, length, take, ◌≡◌, ◌≤◌};
     ghost use Rattle.plans.specs.declared.Part.{Part};
+    ghost use Rattle.std.proofs.Common.{arith, sym, length-take-le};
+    ghost use Rattle.plans.specs.Plans.{padded};
 
     ghost Value = { List Part };
 
     ghost view = { λ p. take p.count p.parts };
 
-    ghost invariant = { λ p. p.count ≤ 16 };
+    ghost invariant = { λ p. (p.count ≤ 16) × (length p.parts ≡ 16) × (p.parts ≡ padded (take p.count p.parts)) };
+
+    ghost inverse = { λ parts. record { parts = padded parts; count = length parts } };
+
+    ghost inverse_ok = { λ p h i. record { parts = sym h.2 i; count = length-take-le p.count p.parts (omega (arith, h.0, h.1)) i } };
 }
 
 impl Plan {
@@ -82,21 +95,18 @@ fn flat_width(rows: &[u32], row: usize) -> Option<Width>
     }
 }
 
-// The plan of a struct of so many members.
+// The parts of a struct of so many members, put into a lent array.
 fn flat_members(
     rows: &[u32],
     members: &[u32],
     alignments: &[u32; 256],
     row: usize,
     count: usize,
-) -> Option<Plan>
+    parts: &mut [Part; 16],
+) -> Option<usize>
     requires { (row < 256) × (count ≤ 16) }
-    ensures { result ≡ flat_from rows.now members.now alignments.now row 0 0 count }
+    ensures { PartsPut (flat_from rows.now members.now alignments.now row 0 0 count) parts.old result parts.new }
 {
-    let mut parts = [Part {
-        width: Width::Boolean,
-        fill: 0,
-    }; 16];
     let mut place: usize = 0;
     for i in 0..count {
         let level = Level {
@@ -117,29 +127,43 @@ fn flat_members(
         };
         place = next;
     }
-    Some(Plan { parts, count })
+    Some(count)
 }
 
-// The plan of a row's value.
-pub fn plan_of(rows: &[u32], members: &[u32], alignments: &[u32; 256], row: usize) -> Option<Plan>
-    ensures { result ≡ plan_of rows.now members.now alignments.now row }
+// The plan of a row's value: its parts are put into a lent array, and counted. The walks lend one, so that no plan is moved: that
+// would be a call of `memcpy`, which a host would have to bring.
+pub fn plan_into(
+    rows: &[u32],
+    members: &[u32],
+    alignments: &[u32; 256],
+    row: usize,
+    parts: &mut [Part; 16],
+) -> Option<usize>
+    ensures { PartsPut (plan_of rows.now members.now alignments.now row) parts.old result parts.new }
 {
     if 256 <= row {
         return None;
     }
     let kind = table::kind_at(rows, row);
     if kind == 1 {
-        return Some(Plan {
-            parts: [Part {
-                width: Width::Boolean,
-                fill: 0,
-            }; 16],
-            count: 1,
-        });
+        parts[0] = Part {
+            width: Width::Boolean,
+            fill: 0,
+        };
+        return Some(1);
     }
     let count = table::b_at(rows, row) as usize;
     if (kind == 7) & (0 < count) & (count <= 16) {
-        return flat_members(rows, members, alignments, row, count);
+        return flat_members(rows, members, alignments, row, count, parts);
     }
     None
+}
+
+// The plan of a row's value.
+pub fn plan_of(rows: &[u32], members: &[u32], alignments: &[u32; 256], row: usize) -> Option<Plan>
+    ensures { result ≡ plan_of rows.now members.now alignments.now row }
+{
+    let mut parts = [NO_PART; 16];
+    let count = plan_into(rows, members, alignments, row, &mut parts)?;
+    Some(Plan { parts, count })
 }

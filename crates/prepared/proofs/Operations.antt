@@ -1,6 +1,7 @@
 -- What the operations on a state answer, case by case.
 -- Assumes nothing.
 use Rattle.std.specs.Prelude.{Result, Ok, Err}
+use Rattle.std.specs.Result.{result_unwrap_or}
 use mathlib.Core.Bool.{Bool, true}
 use mathlib.Core.List.{List}
 use mathlib.Core.Path.{◌≡◌, ap, sym, ◌∙◌}
@@ -16,7 +17,7 @@ use Rattle.rules.specs.Answers.{numbers_of, answer_of, result_numbers}
 use Rattle.prepared.specs.declared.Counts.{Counts}
 use Rattle.prepared.specs.declared.State.{State}
 use Rattle.prepared.specs.States.{counts_in, state_of, prepared_of, same_state, agrees, agreement}
-use Rattle.prepared.specs.Operations.{cut_to, appended, counts_within, went_back, cut_state}
+use Rattle.prepared.specs.Operations.{cut_to, appended, counts_within, went_back, state_after, cut_state, no_numbers}
 use Rattle.prepared.proofs.States.{same_state_lem, agrees_sound, prepared_said, cut_compared}
 
 -- An answer with its numbers.
@@ -24,6 +25,12 @@ pub told : {A : Type 0} (values : A → List ℕ) (r : Result A Fault) {a : Answ
     → record { answer : answer_of r ≡ a; numbers : result_numbers 0 values r ≡ numbers_of 0 values a }
 told values (Ok a) e = record { answer = e; numbers = ap (numbers_of 0 values) e }
 told values (Err f) e = record { answer = e; numbers = ap (numbers_of 0 values) e }
+
+-- The same with the state that a caller has afterwards.
+pub told_state : (before : State) (r : Result State Fault) {a : Answer State} → answer_of r ≡ a
+    → record { answer : answer_of r ≡ a; state : result_unwrap_or r before ≡ state_after a before; numbers : result_numbers 0 no_numbers r ≡ numbers_of 0 no_numbers a }
+told_state before (Ok s) e = record { answer = e; state = ap (λ a. state_after a before) e; numbers = ap (numbers_of 0 no_numbers) e }
+told_state before (Err f) e = record { answer = e; state = ap (λ a. state_after a before) e; numbers = ap (numbers_of 0 no_numbers) e }
 
 -- ---- what the operations answer
 

@@ -3,12 +3,13 @@
 #![tactic(auto)]
 
 ghost use Rattle.std.specs.Prelude.{◌≡◌};
+ghost use Rattle.std.specs.Result.{result_unwrap_or};
 ghost use Rattle.rules.specs.Refusals.{state_disagrees, fault, accepted, require};
 ghost use Rattle.rules.specs.TypeTable.{type_table};
 ghost use Rattle.rules.specs.Answers.{numbers_of, nothing, answer_of, result_numbers};
 ghost use Rattle.rules.specs.declared.Place.TheVariants.{Amount};
 ghost use Rattle.prepared.specs.States.{start, counts_in, prepared_of, same_state, agreement};
-ghost use Rattle.prepared.specs.Operations.{cut_to, appended, counts_within, went_back, cut_state, no_numbers};
+ghost use Rattle.prepared.specs.Operations.{cut_to, appended, counts_within, went_back, state_after, cut_state, no_numbers};
 
 use layout::climb::{climb, climb_from};
 use rules::{Fault, Place, Refusal};
@@ -64,7 +65,7 @@ fn prepare_cut(to: Counts, rows: &[u32], members: &[u32], entries: &[u64]) -> Re
     )
 }
 
-// An operation gives the new state. On a refusal the caller's own is as it was.
+// An operation gives the new state. On a refusal the caller's own is as it was: what it has afterwards, `unwrap_or(self)`, is `state_after`.
 impl State {
     // "All zero at the start."
     pub fn start() -> State
@@ -81,9 +82,10 @@ impl State {
         }
     }
 
-    // Prepares a whole table: 1, or its state.
+    // Prepares a whole table: 1, or its state; after a refusal there is the start state.
     pub fn prepare(rows: &[u32], members: &[u32], entries: &[u64]) -> Result<State, Fault>
         ensures answer { answer_of result ≡ prepared_of (type_table rows.now members.now entries.now) }
+        ensures state { result_unwrap_or result start ≡ state_after (prepared_of (type_table rows.now members.now entries.now)) start }
         ensures numbers { result_numbers 0 no_numbers result ≡ numbers_of 0 no_numbers (prepared_of (type_table rows.now members.now entries.now)) }
     {
         let mut state = State::start();
@@ -120,6 +122,7 @@ impl State {
     // to hold this state against them, and the climb goes on from there: each row is worked out once.
     pub fn append(self, rows: &[u32], members: &[u32], entries: &[u64]) -> Result<State, Fault>
         ensures answer { answer_of result ≡ appended self (type_table rows.now members.now entries.now) }
+        ensures state { result_unwrap_or result self ≡ state_after (appended self (type_table rows.now members.now entries.now)) self }
         ensures numbers { result_numbers 0 no_numbers result ≡ numbers_of 0 no_numbers (appended self (type_table rows.now members.now entries.now)) }
     {
         let used = self.cut(rows, members, entries);
@@ -148,6 +151,7 @@ impl State {
         to: Counts,
     ) -> Result<State, Fault>
         ensures answer { answer_of result ≡ went_back self (type_table rows.now members.now entries.now) to }
+        ensures state { result_unwrap_or result self ≡ state_after (went_back self (type_table rows.now members.now entries.now) to) self }
         ensures numbers { result_numbers 0 no_numbers result ≡ numbers_of 0 no_numbers (went_back self (type_table rows.now members.now entries.now) to) }
     {
         if !to.within(self.counts) || !to.within(Counts::of(rows, members, entries)) {

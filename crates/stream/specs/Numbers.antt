@@ -1,6 +1,6 @@
 -- The number stream that cases are read from.
 -- Assumes nothing.
-use Rattle.std.specs.Prelude.{◌≡◌, Bool, true, false, ◌&&◌, List, [], ◌∷◌, ℕ, suc, ◌+◌, ◌-◌, ◌*◌, ◌%◌, ◌≤◌, min, leb, eqb, length, take, drop, map, get_or, if◌then◌else◌}
+use Rattle.std.specs.Prelude.{◌≡◌, Bool, true, false, ◌&&◌, List, [], ◌∷◌, ℕ, suc, ◌+◌, ◌-◌, ◌*◌, ◌%◌, ◌≤◌, ◌<◌, min, leb, eqb, length, take, drop, map, get_or, if◌then◌else◌}
 use Rattle.std.proofs.lemmas.List.Edits.{sets}
 use Rattle.std.specs.Char.{is_ascii_digit}
 use Rattle.rules.specs.Bytes.{ones64}
@@ -61,13 +61,19 @@ second_place numbers = 1 + length (list_at numbers 0)
 abbrev pub third_place : List ℕ → ℕ
 third_place numbers = second_place numbers + 1 + length (list_at numbers (second_place numbers))
 
+-- The place after all three; past the end of the numbers, where a length is missing.
+abbrev pub after_third : List ℕ → ℕ
+after_third numbers = third_place numbers + 1 + length (list_at numbers (third_place numbers))
+
 -- Putting a type table: the row list that stands first and the member list after it are stored in lists of words that were
--- lent; the entries stand third; the numbers after them are left.
-pub record TablePut (numbers rows members : List ℕ) (row_count member_count : ℕ) (entries rest rows' members' : List ℕ) : Type 0 where
+-- lent; the entries stand third; the numbers after them are left, and start at a place so near that it can be counted on from there.
+pub record TablePut (numbers rows members : List ℕ) (row_count member_count : ℕ) (entries rest : List ℕ) (next : ℕ) (rows' members' : List ℕ) : Type 0 where
   pub rows_put : Narrows word_of (list_at numbers 0) rows row_count rows'
   pub members_put : Narrows word_of (list_at numbers (second_place numbers)) members member_count members'
   pub third : entries ≡ list_at numbers (third_place numbers)
-  pub passed : rest ≡ after_list numbers (third_place numbers)
+  pub left : rest ≡ after_list numbers (third_place numbers)
+  pub passed : next ≡ after_third numbers
+  pub near : next < 4611686018427387904
 
 -- Are two lists of numbers equal?
 unfoldable pub same_numbers : List ℕ → List ℕ → Bool

@@ -134,18 +134,19 @@ pub fn put_narrow<T: Narrow>(numbers: &[u64], lent: &mut [T]) -> usize
 }
 
 // How many numbers of a row list and of a member list were put into lent lists, the entries, which need no list of their own,
-// and the numbers after all three.
+// the numbers after all three, and the place where these start: past the end of the case where a list's length is missing.
 #[derive(Clone, Copy)]
 pub struct Table<'a> {
     pub rows: usize,
     pub members: usize,
     pub entries: &'a [u64],
     pub rest: &'a [u64],
+    pub next: usize,
 }
 
 // Puts the row list and the member list that stand first into lent lists.
 pub fn put_table<'a>(numbers: &'a [u64], rows: &mut [u32], members: &mut [u32]) -> Table<'a>
-    ensures put { TablePut numbers.now rows.old members.old result.rows result.members result.entries.now result.rest.now rows.new members.new }
+    ensures put { TablePut numbers.now rows.old members.old result.rows result.members result.entries.now result.rest.now result.next rows.new members.new }
     ensures entries { third_place numbers.now < length numbers.now → result.entries.ref_ptr ≡ (numbers.entry.ref_ptr.0, (third_place numbers.now + 1) * 8 + numbers.entry.ref_ptr.1) }
     ensures rest { third_place numbers.now < length numbers.now → result.rest.ref_ptr ≡ (numbers.entry.ref_ptr.0, (third_place numbers.now + (1 + length result.entries.now)) * 8 + numbers.entry.ref_ptr.1) }
 {
@@ -157,6 +158,7 @@ pub fn put_table<'a>(numbers: &'a [u64], rows: &mut [u32], members: &mut [u32]) 
         members: put_narrow(member_list, members),
         entries,
         rest,
+        next: 3 + row_list.len() + member_list.len() + entries.len(),
     }
 }
 

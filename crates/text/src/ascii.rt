@@ -16,7 +16,7 @@ pub fn past_ascii<T: Item>(text: &[T]) -> usize
     text.len()
 }
 
-// Not a loop over chunks: blocks are passed in between.
+// Not a loop over chunks: more may be passed in between.
 fn past_eights<T: Item>(text: &[T]) -> usize
     ensures { Passes (map T.number text.now) 0 result }
 {
@@ -25,9 +25,22 @@ fn past_eights<T: Item>(text: &[T]) -> usize
         if !T::are_ascii(eight) {
             return at;
         }
-        at = past_blocks(text, at + 8);
+        at = past_more(text, at + 8);
     }
     at
+}
+
+// Past what is ASCII after an eight that is, by blocks where they pay.
+#[inline(always)]
+pub fn past_more<T: Item>(text: &[T], from: usize) -> usize
+    requires { from ≤ length text.now }
+    ensures { Passes (map T.number text.now) from result }
+{
+    if T::by_blocks() {
+        past_blocks(text, from)
+    } else {
+        from
+    }
 }
 
 // Blocks of 32 are tried only after eight: most runs of text that is not all ASCII are short. Inlined, since a call there costs as much as

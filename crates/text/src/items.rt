@@ -16,6 +16,9 @@ pub trait Item: Copy {
     fn are_ascii(eight: &[Self]) -> bool
         requires { length eight.now ≡ 8 }
         ensures { result ≡ true → AreAscii (map number eight.now) };
+
+    // Does it pay to try a whole block of them after an eight? Either way the answer is the same.
+    fn by_blocks() -> bool;
 }
 
 impl Item for u8 {
@@ -29,6 +32,10 @@ impl Item for u8 {
     fn are_ascii(eight: &[u8]) -> bool {
         u64::load(eight, 0) & 0x8080808080808080 == 0
     }
+
+    fn by_blocks() -> bool {
+        true
+    }
 }
 
 impl Item for u64 {
@@ -40,10 +47,11 @@ impl Item for u64 {
     }
 
     fn are_ascii(eight: &[u64]) -> bool {
-        let mut ascii = true;
-        for &number in eight {
-            ascii &= number < 0x80;
-        }
-        ascii
+        words::bits_of(eight) < 0x80
+    }
+
+    // A block of numbers costs as much as its eights.
+    fn by_blocks() -> bool {
+        false
     }
 }

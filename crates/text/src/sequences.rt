@@ -3,12 +3,12 @@ ghost use Rattle.std.specs.Prelude.{◌≡◌, ◌≤◌, length, map};
 ghost use Rattle.text.specs.Answers.{text_of};
 ghost use Rattle.text.specs.Sequences.{text_from, Passes};
 
-use crate::ascii::past_blocks;
+use crate::ascii::past_more;
 use crate::items::Item;
 use crate::states::State;
 
 // The text's end, if the machine is between sequences there; else where the last eight start that it began between sequences. Not a loop
-// over chunks: blocks of ASCII are passed in between.
+// over chunks: more ASCII may be passed in between.
 pub fn past_sequences<T: Item>(text: &[T], from: usize) -> usize
     requires { from ≤ length text.now }
     ensures { Passes (map T.number text.now) from result }
@@ -19,7 +19,7 @@ pub fn past_sequences<T: Item>(text: &[T], from: usize) -> usize
     while let Some(eight) = text[at..].get(..8) {
         begun = state.begun_at(at, begun);
         if state.is_between() && T::are_ascii(eight) {
-            at = past_blocks(text, at + 8);
+            at = past_more(text, at + 8);
             continue;
         }
         state = state.after_all(eight);

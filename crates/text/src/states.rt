@@ -1,6 +1,7 @@
 // The machine that goes over text: what is due next is a state, and the class of a byte leads from one to the next.
-ghost use Rattle.std.specs.Prelude.{◌≡◌, ◌%◌, eqb, map, if◌then◌else◌};
-ghost use Rattle.text.specs.Machine.{StepsTo, StepsOver};
+ghost use Rattle.std.specs.Prelude.{◌≡◌, ◌%◌, ◌<◌, eqb, get_or, map, if◌then◌else◌};
+ghost use Rattle.text.specs.Classes.{class_of};
+ghost use Rattle.text.specs.Machine.{steps, StepsTo, StepsOver};
 
 use crate::items::Item;
 use crate::tables::{CLASSES, STEPS};
@@ -9,6 +10,21 @@ use crate::tables::{CLASSES, STEPS};
 const BETWEEN: u64 = 0;
 
 const REFUSED: u64 = 48;
+
+// The class of a byte: the table is the one that `ClassesRight` is about.
+fn class_of(byte: u8) -> u8
+    ensures { result ≡ class_of byte }
+{
+    CLASSES[byte as usize]
+}
+
+// For each state, six times the state after a byte of a class.
+fn steps_of(class: u8) -> u64
+    requires { class < 13 }
+    ensures { result ≡ get_or steps class 0 }
+{
+    STEPS[class as usize]
+}
 
 // The word's lowest six bits are six times the state.
 #[derive(Clone, Copy)]
@@ -47,9 +63,9 @@ impl State {
     pub fn after<T: Item>(self, item: T) -> State
         ensures { StepsTo self.word (T.number item) result.word }
     {
-        let class = CLASSES[item.byte() as usize];
+        let class = class_of(item.byte());
         State {
-            word: STEPS[class as usize] >> (self.word % 64),
+            word: steps_of(class) >> (self.word % 64),
         }
     }
 

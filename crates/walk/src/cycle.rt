@@ -82,8 +82,9 @@ pub fn value(
     out_of_line(laid, bytes, held, values, objects, depth, row, at, c)
 }
 
-// As many values of a row as there are, one after the other.
+// As many values of a row as there are, one after the other. Kept out of line, so that its plan lies on no stack of nested structs.
 #[cycle(composite_content_elements_envelopes_out_of_line_value)]
+#[inline(never)]
 fn elements(
     laid: &Laid<'_>,
     bytes: &[u8],
@@ -115,8 +116,9 @@ fn elements(
         return strict_values(rows, entries, bytes, values, row, count, at, c);
     }
     let size = words::item_at(sizes, row) as usize;
-    if let Some(plan) = plans::plan_of(rows, members, alignments, row) {
-        return planned(bytes, values, plan.parts(), size, count, at, c);
+    let mut parts = [plans::NO_PART; 16];
+    if let Some(many) = plans::plan_into(rows, members, alignments, row, &mut parts) {
+        return planned(bytes, values, &parts[..many], size, count, at, c);
     }
     let mut d = c;
     let mut place = at;
@@ -158,9 +160,10 @@ fn composite(
     let first = table::a_at(rows, row) as usize;
     let part = table::row_of(members, first) as usize;
     if table::kind_at(rows, part) <= 2 {
-        if let Some(plan) = plans::plan_of(rows, members, alignments, row) {
+        let mut parts = [plans::NO_PART; 16];
+        if let Some(count) = plans::plan_into(rows, members, alignments, row, &mut parts) {
             let size = words::item_at(sizes, row) as usize;
-            return planned(bytes, values, plan.parts(), size, 1, at, c);
+            return planned(bytes, values, &parts[..count], size, 1, at, c);
         }
     }
     // a struct of one member that has no parts itself: the member, and the fill after it

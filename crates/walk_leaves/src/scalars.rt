@@ -22,7 +22,8 @@ pub fn boolean(bytes: &[u8], values: &mut [u64], at: usize, c: Cursor) -> Result
     Ok(gave(values, b as u64, c))
 }
 
-// The number of so many bytes at a place.
+// The number of so many bytes at a place. Inlined, so that a run of numbers asks for their width once.
+#[inline(always)]
 pub(crate) fn number_of(bytes: &[u8], width: u32, at: usize) -> u64
     requires { width_allowed width ≡ true }
     ensures { result ≡ word bytes.now at width }
@@ -39,6 +40,15 @@ pub(crate) fn number_of(bytes: &[u8], width: u32, at: usize) -> u64
     words::item_at(bytes, at) as u64
 }
 
+// The same by a call of its own: where numbers stand among other parts, it leaves the registers to these.
+#[inline(never)]
+fn number_apart(bytes: &[u8], width: u32, at: usize) -> u64
+    requires { width_allowed width ≡ true }
+    ensures { result ≡ word bytes.now at width }
+{
+    number_of(bytes, width, at)
+}
+
 pub fn number(
     bytes: &[u8],
     values: &mut [u64],
@@ -49,7 +59,7 @@ pub fn number(
     requires { (width_allowed width ≡ true) × (c.values < 4294967296) }
     ensures { DidValues bytes.now values.old values.new 1 at c result (λ m. decode_word m width) }
 {
-    let x = number_of(bytes, width, at);
+    let x = number_apart(bytes, width, at);
     Ok(gave(values, x, c))
 }
 

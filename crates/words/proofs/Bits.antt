@@ -15,7 +15,7 @@ start_kept : (bits : ℕ) (numbers : List ℕ) → bits ≤ fold bit_or bits num
 start_kept bits [] = omega arith
 start_kept bits (n ∷ numbers) = omega (arith, bits_left bits n, start_kept (bit_or bits n) numbers)
 
-none_above : (bits : ℕ) (numbers : List ℕ) (i : ℕ) → get_or numbers i 0 ≤ fold bit_or bits numbers
+pub none_above : (bits : ℕ) (numbers : List ℕ) (i : ℕ) → get_or numbers i 0 ≤ fold bit_or bits numbers
 none_above bits [] i = omega arith
 none_above bits (n ∷ numbers) zero = omega (arith, bits_right bits n, start_kept (bit_or bits n) numbers)
 none_above bits (n ∷ numbers) (suc i) = none_above (bit_or bits n) numbers i

@@ -1,7 +1,8 @@
 -- Laws of `part`, so many bytes from a place on, and of `word`, the number that they stand for, at any width.
 -- Assumes nothing.
 use Rattle.std.proofs.lemmas.Grind.{common_steps}
-use Rattle.std.proofs.Common.{set, ◌∙◌, ◌≡◌, ℕ, zero, suc, ◌+◌, ◌*◌, ◌^◌, ◌<◌, ◌≤◌, List, [], ◌∷◌, length, get_or, refl, add-zero, add-suc, suc-add, pow-suc, arith, drop_of_length-le, drop-cons}
+use Rattle.std.proofs.Common.{set, ◌∙◌, ◌≡◌, ℕ, zero, suc, ◌+◌, ◌*◌, ◌^◌, ◌<◌, ◌≤◌, List, [], ◌∷◌, length, get_or, refl, add-zero, add_comm, mul_comm, add-suc, suc-add, pow-suc, arith, drop_of_length-le, drop-cons, w8, Fits}
+use lib.Arith.{digits_lt}
 use lib.Seq.{take-nil}
 use Rattle.std.specs.Int.{byte_worth, sum_through}
 use Rattle.rules.specs.Bytes.{little_endian, part, word}
@@ -32,6 +33,13 @@ word_step (byte ∷ bytes) (suc at) width = word_step bytes at width
 -- a word of one byte
 pub word_byte : (bytes : List ℕ) (at : ℕ) → word bytes at 1 ≡ get_or bytes at 0
 word_byte bytes at = omega (arith, word_step bytes at 0, word_none bytes (suc at))
+
+-- a word of a slice of bytes fits its width
+pub word_below : (bytes : List ℕ) → ((i : ℕ) → Fits w8 (get_or bytes i 0)) → (at width : ℕ) → word bytes at width < 256 ^ width
+word_below bytes known at zero = rw word_none (omega arith)
+word_below bytes known at (suc width) =
+    let byte : get_or bytes at 0 < 256 = (known at).fits in
+    rw (word_step, add_comm, mul_comm 256, pow-suc) (digits_lt (word_below bytes known (suc at) width) byte)
 
 -- the last of a word's bytes, worth the most
 spread : (byte low last worth : ℕ) → byte + 256 * (low + last * worth) ≡ byte + 256 * low + last * (worth * 256)

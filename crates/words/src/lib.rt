@@ -161,17 +161,28 @@ impl Word for u64 {
 }
 
 // N bytes from a place on. Where they lie within the bytes they are one machine load at -O3.
-#[tactic(auto, using(crate::proofs::Loads::filled_more))]
+#[inline(always)]
 fn chunk_at<const N: usize>(bytes: &[u8], at: usize) -> [u8; N]
     ensures { (i : ℕ) → i < N → slice_index result i ≡ slice_index bytes.now (at + i) }
 {
-    let Some(rest) = bytes.get(at..) else {
-        return [0; N];
-    };
-    if let Some(chunk) = rest.first_chunk() {
-        return *chunk;
+    if let Some(rest) = bytes.get(at..) {
+        if let Some(chunk) = rest.first_chunk() {
+            return *chunk;
+        }
     }
+    chunk_past(bytes, at)
+}
+
+// The same byte by byte, where the bytes end within it. Kept out of line, since few loads come here.
+#[inline(never)]
+#[tactic(auto, using(crate::proofs::Loads::filled_more))]
+fn chunk_past<const N: usize>(bytes: &[u8], at: usize) -> [u8; N]
+    ensures { (i : ℕ) → i < N → slice_index result i ≡ slice_index bytes.now (at + i) }
+{
     let mut chunk = [0; N];
+    let Some(rest) = bytes.get(at..) else {
+        return chunk;
+    };
     for i in 0..N {
         chunk[i] = item_at(rest, i);
     }

@@ -3,4 +3,4 @@ use Rattle.plans.proofs.Planning.{Planning}
 use Rattle.plans.proofs.flat_members.Given as goal
 
 abbrev pub invariant-loop-i : goal.invariant-loop-i
-invariant-loop-i l = Planning l.rows l.members l.alignments l.row l.count l.parts l.place l.i
+invariant-loop-i l = Planning l.rows l.members l.alignments l.row l.count l.initial.parts l.parts l.place l.i

@@ -8,9 +8,9 @@ use Rattle.rules.specs.TypeTable.{TypeTable, type_table}
 use Rattle.rules.specs.Sound.{soundness}
 use Rattle.layout.proofs.Climbing.{climbed_kept}
 use Rattle.prepared.specs.declared.State.{State}
-use Rattle.prepared.specs.Operations.{cut_state, no_numbers}
+use Rattle.prepared.specs.Operations.{cut_state}
 use Rattle.prepared.proofs.States.{Standing, cut_standing}
-use Rattle.prepared.proofs.Operations.{told, append_goes}
+use Rattle.prepared.proofs.Operations.{told_state, append_goes}
 use Rattle.prepared.proofs.State.append.Goals as goal
 
 -- What the climb goes on from.
@@ -28,7 +28,7 @@ returns-in_err-require_same c =
     let a = c.args in
     let t = type_table a.rows.now a.members.now a.entries.now in
     rw (err_passed c.from_residual-in_err-require_same.ensures.1)
-    (told no_numbers (Err _) (append_goes a.self t (sym c.in_ok-climb_from.ensures.verdict) c.cut-used.ensures c.in_err-require_same.ensures))
+    (told_state a.self (Err _) (append_goes a.self t (sym c.in_ok-climb_from.ensures.verdict) c.cut-used.ensures c.in_err-require_same.ensures))
 
 pub returns : goal.returns
 returns c =
@@ -38,5 +38,5 @@ returns c =
     let sound : soundness t ≡ accepted tt = sym climbed.verdict in
     let stands = stands a.self t c.cut-used.ensures in
     let kept = climbed_kept climbed sound _ stands.climbing.within stands.size_zeros stands.alignment_zeros in
-    told no_numbers (Ok _)
+    told_state a.self (Ok _)
     (rw (c.of-state.ensures, kept.0, kept.1) (append_goes a.self t sound c.cut-used.ensures c.in_ok-require_same.ensures))

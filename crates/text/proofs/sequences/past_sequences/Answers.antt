@@ -19,7 +19,7 @@ loop-eight-preserved-then-are_ascii g c =
     let chunk = c.in-Some.ensures.lookup.0 in
     let between = eqb-true _ _ (sym c.is_between.ensures ∙ c.if-is_between.true) in
     let ascii = chunk_passed g.T.Item.number c.args.text.now 8 chunk.1 chunk.2 (c.are_ascii.ensures c.if-are_ascii.true) (passed inv.1.there between) in
-    (later inv.0 inv.1 c.begun_at-begun.ensures, reached (both_passed ascii c.past_blocks-at.ensures) between)
+    (later inv.0 inv.1 c.begun_at-begun.ensures, reached (both_passed ascii c.past_more-at.ensures) between)
 
 pub returns-then-is_refused : goal.returns-then-is_refused
 returns-then-is_refused g c = later c.loop-eight.invariant.0 c.loop-eight.invariant.1 c.begun_at-begun.ensures

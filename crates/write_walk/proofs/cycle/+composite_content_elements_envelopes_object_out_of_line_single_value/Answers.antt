@@ -34,11 +34,11 @@ use Rattle.write_walk.proofs.cycle.+composite_content_elements_envelopes_object_
 
 pub composite-planned-requires : goal.composite-planned-requires
 composite-planned-requires t c =
-    alone_ask c.requires.0 c.plan_of.ensures c.in-Some.is c.parts.ensures c.item_at-size.ensures c.requires.2
+    alone_ask c.requires.0 (rw c.in-Some.is at c.plan_into.ensures).1 c.item_at-size.ensures c.requires.2
 
 pub composite-returns-in-Some : goal.composite-returns-in-Some
 composite-returns-in-Some t c =
-    alone_done c.requires.0 c.plan_of.ensures c.in-Some.is c.parts.ensures c.item_at-size.ensures _ _ _ _ _ _ _ c.requires.2 c.planned.ensures
+    alone_done c.requires.0 (rw c.in-Some.is at c.plan_into.ensures).1 c.item_at-size.ensures _ _ _ _ _ _ _ c.requires.2 c.planned.ensures
 
 pub composite-loop-next-init : goal.composite-loop-next-init
 composite-loop-next-init t c =
@@ -221,10 +221,10 @@ elements-returns-then-kind t c =
     strict_run_done c.requires.0 c.kind_at-kind.ensures c.if-kind.true _ _ _ _ _ _ _ _ c.requires.1 c.strict_values.ensures
 
 pub elements-planned-requires : goal.elements-planned-requires
-elements-planned-requires t c = planned_ask c.requires.0 c.plan_of.ensures c.in-Some.is c.parts.ensures c.item_at-size.ensures _ c.requires.1
+elements-planned-requires t c = planned_ask c.requires.0 (rw c.in-Some.is at c.plan_into.ensures).1 c.item_at-size.ensures _ c.requires.1
 
 pub elements-returns-in-Some : goal.elements-returns-in-Some
-elements-returns-in-Some t c = planned_done c.requires.0 c.plan_of.ensures c.in-Some.is c.parts.ensures c.item_at-size.ensures _ _ _ _ _ _ _ _ c.requires.1 c.planned.ensures
+elements-returns-in-Some t c = planned_done c.requires.0 (rw c.in-Some.is at c.plan_into.ensures).1 c.item_at-size.ensures _ _ _ _ _ _ _ _ c.requires.1 c.planned.ensures
 
 pub elements-loop-init : goal.elements-loop-init
 elements-loop-init t c = (turns_start _ _ refl c.requires.1, search rules)

@@ -1,6 +1,6 @@
--- `words::chunk_at` meets its contract. The loop's invariant: the bytes passed stand in the chunk.
+-- `words::chunk_past` meets its contract. The loop's invariant: the bytes passed stand in the chunk.
 use Rattle.std.proofs.Common.{◌≡◌, ◌<◌, ℕ, length, get_or}
-use Rattle.words.proofs.chunk_at.Given as goal
+use Rattle.words.proofs.chunk_past.Given as goal
 
 abbrev pub invariant-loop-i : goal.invariant-loop-i
 invariant-loop-i g l = record {
