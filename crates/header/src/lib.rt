@@ -57,6 +57,7 @@ fn header_in(message: &[u8]) -> Header
 }
 
 // The status in an epitaph's body: 6 at 16, under 24 bytes; 7 at the first of bytes 20 to 23 that is not zero; 20 at 24, more bytes.
+#[inline(always)]
 #[tactic(auto, using(words::proofs::Fill::zeros_at_most))]
 fn read_status(message: &[u8]) -> Result<i32, Fault>
     ensures { answer_of result ≡ Rules.require_status message.now (accepted (signed32 (word message.now 16 4))) }

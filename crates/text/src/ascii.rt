@@ -16,7 +16,7 @@ pub fn past_ascii<T: Item>(text: &[T]) -> usize
     text.len()
 }
 
-// Not a loop over chunks: more may be passed in between.
+// Not a loop over chunks: blocks are passed in between.
 fn past_eights<T: Item>(text: &[T]) -> usize
     ensures { Passes (map T.number text.now) 0 result }
 {
@@ -25,12 +25,12 @@ fn past_eights<T: Item>(text: &[T]) -> usize
         if !T::are_ascii(eight) {
             return at;
         }
-        at = past_more(text, at + 8);
+        at = past_blocks(text, at + 8);
     }
     at
 }
 
-// Past what is ASCII after an eight that is, by blocks where they pay.
+// Past what is ASCII after an eight that is, among other text: by blocks where they pay there.
 #[inline(always)]
 pub fn past_more<T: Item>(text: &[T], from: usize) -> usize
     requires { from ≤ length text.now }

@@ -17,7 +17,7 @@ pub trait Item: Copy {
         requires { length eight.now ≡ 8 }
         ensures { result ≡ true → AreAscii (map number eight.now) };
 
-    // Does it pay to try a whole block of them after an eight? Either way the answer is the same.
+    // Does it pay to try a whole block of them after each eight of ASCII among other text? Either way the answer is the same.
     fn by_blocks() -> bool;
 }
 
@@ -50,7 +50,7 @@ impl Item for u64 {
         words::bits_of(eight) < 0x80
     }
 
-    // A block of numbers costs as much as its eights.
+    // A block of numbers costs as much as its eights, and most runs are shorter.
     fn by_blocks() -> bool {
         false
     }

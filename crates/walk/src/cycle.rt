@@ -226,8 +226,10 @@ fn composite(
     }
 }
 
-// A value whose record leads out of line: vector, box, table or union.
+// A value whose record leads out of line: vector, box, table or union. Kept out of line itself, so that what it needs lies on the stack once
+// for each object, and not at each level of nested structs.
 #[cycle(composite_content_elements_envelopes_out_of_line_value)]
+#[inline(never)]
 fn out_of_line(
     laid: &Laid<'_>,
     bytes: &[u8],

@@ -5,4 +5,5 @@ pub mod Objects
 pub mod Reading
 pub mod ByPlan
 pub mod Bools
+pub mod OneWidth
 pub mod Strict

@@ -1,7 +1,8 @@
 // Values of bools and numbers alone, by a plan that is made once for many of them.
-ghost use Rattle.std.specs.Prelude.{true, ◌≡◌, [], ◌∷◌, ◌+◌, ◌*◌, ◌≤◌, ◌<◌, length};
+ghost use Rattle.std.specs.Prelude.{true, ◌≡◌, [], ◌∷◌, ◌+◌, ◌*◌, ◌≤◌, ◌<◌, length, replicate, IfSome};
 ghost use Rattle.rules.specs.Decode.{elements, fill};
 ghost use Rattle.rules.specs.Sizes.{field};
+ghost use Rattle.rules.specs.Sound.{width_allowed};
 ghost use Rattle.plans.specs.Plans.{runnable, Runnable, width_row, part_fields, parts_size};
 ghost use Rattle.walk_leaves.specs.Doing.{Ask};
 ghost use Rattle.walk_leaves.specs.Parts.{DidValues, DidNeither};
@@ -82,6 +83,26 @@ fn is_bool(parts: &[Part]) -> bool
     }
 }
 
+// The width of a plan of numbers of one width and no fill: its values are a run of such numbers.
+fn one_width(parts: &[Part]) -> Option<u32>
+    requires { Runnable parts.now }
+    ensures { IfSome result (λ width. (width_allowed width ≡ true) × (part_fields parts.now ≡ replicate (length parts.now) (field width 0))) }
+{
+    if parts.is_empty() {
+        return None;
+    }
+    let first = parts[0];
+    let Width::Bytes(width) = first.width else {
+        return None;
+    };
+    for p in parts {
+        if p.width != first.width || p.fill != 0 {
+            return None;
+        }
+    }
+    Some(width)
+}
+
 // As many values as there are, one after the other, each of so many bytes. Bools none of which is above 1 are given all at
 // once, as numbers of one byte; where one is above 1 they go one by one, to the first that is refused.
 pub fn planned(
@@ -102,6 +123,9 @@ pub fn planned(
         if words::bits_of(&bytes[at..stop]) <= 1 {
             return Ok(numbers(bytes, values, 1, count, at, c));
         }
+    }
+    if let Some(width) = one_width(parts) {
+        return Ok(numbers(bytes, values, width, count * parts.len(), at, c));
     }
     let mut d = c;
     let mut place = at;
