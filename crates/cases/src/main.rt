@@ -28,9 +28,14 @@ fn main(rt: HostRuntime) -> io::Result<()> {
     let mut text: [u8; stream::TEXT_ROOM] = stream::room(0);
     let count = console::read_full(&mut rt.stdin(), &mut text)?;
     if count == stream::TEXT_ROOM {
-        return println!(rt; "the stream is too long");
+        return report_too_long(&rt);
     }
     run(&rt, &text[..count])
+}
+
+#[inline(never)]
+fn report_too_long(rt: &impl Print) -> io::Result<()> {
+    println!(rt; "the stream is too long")
 }
 
 fn run(rt: &impl Print, text: &[u8]) -> io::Result<()> {
@@ -53,7 +58,7 @@ fn run(rt: &impl Print, text: &[u8]) -> io::Result<()> {
         }
         // The first failures are named by their line in the stream.
         if failures < FAILURES_SHOWN {
-            println!(rt; "{operation}: line {line} failed")?;
+            report_failure(rt, operation, line)?;
         }
         failures += 1;
     }
@@ -77,6 +82,12 @@ impl Tally {
     }
 }
 
+#[inline(never)]
+fn report_failure(rt: &impl Print, operation: Operation, line: usize) -> io::Result<()> {
+    println!(rt; "{operation}: line {line} failed")
+}
+
+#[inline(never)]
 fn report(rt: &impl Print, tallies: &[Tally; OPERATIONS.len()]) -> io::Result<()> {
     for (operation, tally) in OPERATIONS.iter().zip(tallies) {
         println!(rt;
@@ -169,7 +180,8 @@ impl Operation {
     }
 }
 
-// ---- what a case says of an answer
+// ---- what a case says of an answer. Functions with room of their own, here and for the operations, are calls of their own, so that only one
+// of these rooms lies on the stack at a time.
 
 // Number and place of a refusal; both are 0 where nothing is refused.
 fn number_and_place<T>(answer: &Result<T, Fault>) -> [u64; 2] {
@@ -200,6 +212,12 @@ fn holds<T: Copy + Into<u64>>(list: &[T], ones: T, given: &[u64]) -> bool {
         )
 }
 
+// The same of an object list, made as wide as the numbers of a case.
+#[inline(never)]
+fn holds_objects(objects: &[u32; NUMBERS_ROOM], given: &[u64]) -> bool {
+    holds(&widened(objects), u64::MAX, given)
+}
+
 // An object list as wide as the numbers of a case: all ones stay all ones.
 fn widened(objects: &[u32; NUMBERS_ROOM]) -> [u64; NUMBERS_ROOM] {
     let mut wide = [u64::MAX; NUMBERS_ROOM];
@@ -212,6 +230,7 @@ fn widened(objects: &[u32; NUMBERS_ROOM]) -> [u64; NUMBERS_ROOM] {
 }
 
 // The message, the place and the count; number and place.
+#[inline(never)]
 fn utf8(case: &[u64]) -> bool {
     let mut message = [0u8; MESSAGE_ROOM];
     let (numbers, rest) = split_list(case);
@@ -227,6 +246,7 @@ fn utf8(case: &[u64]) -> bool {
 }
 
 // The row list, the member list and the entries; number and place.
+#[inline(never)]
 fn sound(case: &[u64]) -> bool {
     let mut rows = [0u32; LIST_ROOM];
     let mut members = [0u32; LIST_ROOM];
@@ -244,6 +264,7 @@ fn sound(case: &[u64]) -> bool {
 }
 
 // The three lists of a type table and the row; number, place, size and alignment.
+#[inline(never)]
 fn layout_of(case: &[u64]) -> bool {
     let mut rows = [0u32; LIST_ROOM];
     let mut members = [0u32; LIST_ROOM];
@@ -320,6 +341,7 @@ impl Rooms {
 }
 
 // A request; number and place.
+#[inline(never)]
 fn check(case: &[u64]) -> bool {
     let mut rooms = Rooms::new();
     let (r, answer) = rooms.request(case);
@@ -328,6 +350,7 @@ fn check(case: &[u64]) -> bool {
 }
 
 // A request, then the rooms of the value list and of the object list; number, place, and both lists.
+#[inline(never)]
 fn read(case: &[u64]) -> bool {
     let mut rooms = Rooms::new();
     let (r, rest) = rooms.request(case);
@@ -355,6 +378,7 @@ struct Lists<'a> {
 }
 
 // Both lists at once.
+#[inline(never)]
 fn read_both(r: Request<'_>, lists: Lists<'_>) -> bool {
     let values_room = room_of(lists.values_room, NUMBERS_ROOM);
     let objects_room = room_of(lists.objects_room, NUMBERS_ROOM);
@@ -377,10 +401,11 @@ fn read_both(r: Request<'_>, lists: Lists<'_>) -> bool {
     counted
         && same(lists.answer, &number_and_place(&read))
         && holds(&values, u64::MAX, lists.values)
-        && holds(&widened(&objects), u64::MAX, lists.objects)
+        && holds_objects(&objects, lists.objects)
 }
 
 // Each list by itself. A case of 22 does not tell how one list alone would do.
+#[inline(never)]
 fn read_each(r: Request<'_>, lists: Lists<'_>) -> bool {
     if item_at(lists.answer, 0) == 22 {
         return true;
@@ -410,7 +435,7 @@ fn read_each(r: Request<'_>, lists: Lists<'_>) -> bool {
     gives(of_values, lists.answer, lists.values.len())
         && gives(of_objects, lists.answer, lists.objects.len())
         && holds(&values, u64::MAX, lists.values)
-        && holds(&widened(&objects), u64::MAX, lists.objects)
+        && holds_objects(&objects, lists.objects)
 }
 
 // Whether a count, or a refusal, is the answer.
@@ -420,6 +445,7 @@ fn gives(count: Result<usize, Fault>, answer: &[u64], expected: usize) -> bool {
 
 // The message; number, place, transaction number, three flags, ordinal, where the body starts and ends, and the status, as a
 // pattern of 32 bits.
+#[inline(never)]
 fn header_read(case: &[u64]) -> bool {
     let mut message = [0u8; MESSAGE_ROOM];
     let (numbers, answer) = split_list(case);
@@ -462,6 +488,7 @@ fn header_read(case: &[u64]) -> bool {
 
 // Transaction number, three flags, ordinal and room; number, place, and the bytes that were written. The output is lent
 // full of ones: past what was written, and on a refusal everywhere, they must still be there.
+#[inline(never)]
 fn header_write(case: &[u64]) -> bool {
     let h = header::Header {
         transaction: u32::narrow(item_at(case, 0)),
@@ -479,6 +506,7 @@ fn header_write(case: &[u64]) -> bool {
 }
 
 // Three flags, the status and the room; number, place, and the bytes that were written, as for a header.
+#[inline(never)]
 fn epitaph_write(case: &[u64]) -> bool {
     let room = room_of(item_at(case, 4), OUTPUT_ROOM);
     let mut output = [255u8; OUTPUT_ROOM];
@@ -504,6 +532,7 @@ fn wrote(answer: &[u64], written: Result<usize, Fault>, output: &[u8]) -> bool {
 
 // The three lists of a type table, the root, the value list and the room; number, place, byte and handle counts, and the bytes
 // that were written, as for a header.
+#[inline(never)]
 fn write(case: &[u64]) -> bool {
     let mut rows = [0u32; LIST_ROOM];
     let mut members = [0u32; LIST_ROOM];

@@ -42,7 +42,7 @@ module _ {A : Algebra} {D : Doing A} {size : ℕ} {parts : ℕ → A.Part} where
 
 -- ---- runs of one and the same part, which go by any number
 
-same_elements : (A : Algebra) (size : ℕ) (part : A.Part) (count i j : ℕ) → A.elements size (λ k. part) i count ≡ A.elements size (λ k. part) j count
+pub same_elements : (A : Algebra) (size : ℕ) (part : A.Part) (count i j : ℕ) → A.elements size (λ k. part) i count ≡ A.elements size (λ k. part) j count
 same_elements A size part zero i j = rw (A.laws.no_elements size (λ k. part) i, A.laws.no_elements size (λ k. part) j)
 same_elements A size part (suc count) i j =
     rw (A.laws.next_element size (λ k. part) i count, A.laws.next_element size (λ k. part) j count) (ap (A.sequence size part) (same_elements A size part count (suc i) (suc j)))

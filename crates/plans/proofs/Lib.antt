@@ -1,5 +1,6 @@
 pub mod Padding
 pub mod Planning
+pub mod FirstMember
 pub mod Widths
 pub mod Plans
 pub mod ByPlan

@@ -1,7 +1,7 @@
 -- What a side makes of the rows of a type table, and what follows for their parts: structs and arrays may be taken apart, and flat
 -- values go by their plan.
 -- Assumes nothing.
-use Rattle.std.specs.Prelude.{Some}
+use Rattle.std.specs.Prelude.{Option, Some, None, IfSome}
 use mathlib.Core.Bool.{true}
 use mathlib.Core.List.{List}
 use mathlib.Core.Path.{◌≡◌, refl, sym, subst, ◌∙◌}
@@ -15,8 +15,9 @@ use Rattle.rules.specs.Sound.{soundness}
 use Rattle.plans.specs.declared.Width.{Width}
 use Rattle.plans.specs.declared.Part.{Part}
 use Rattle.nesting.specs.Nesting.{has_parts}
-use Rattle.plans.specs.Plans.{width_row, width_layout, Runnable, part_fields, parts_size, plan_of}
-use Rattle.layout.specs.Ready.{Ready}
+use Rattle.plans.specs.Plans.{width_row, width_layout, Runnable, part_fields, parts_size, plan_of, plan_in, size_in, PlanAsks, ByPlan}
+use Rattle.layout.specs.declared.laid.Laid.{Laid}
+use Rattle.layout.specs.Ready.{Ready, table_in}
 use Rattle.nesting.proofs.Items.{items_of, size_of_items, fields_size_lem}
 use Rattle.nesting.proofs.Left.{fields_left}
 use Rattle.nesting.proofs.Going.{Opens}
@@ -85,10 +86,6 @@ module _ {t : TypeTable} {sizes alignments : List ℕ} {depth row : ℕ} (ready 
   pub plan_asks : (Asks : ℕ → Type 0) (count : ℕ) → Asks (count * size_of t row) → Runnable parts × (parts_size parts ≡ size) × Asks (count * size)
   plan_asks Asks count a = (flat_runnable flat, sym (flat_row_size ready flat) ∙ sized, rw sized at a)
 
-  -- A value by itself is a run of one.
-  pub alone_asks : (Asks : ℕ → Type 0) → Asks (size_of t row) → Runnable parts × (parts_size parts ≡ size) × Asks (1 * size)
-  alone_asks Asks a = let once : size_of t row ≡ 1 * size_of t row = omega arith in plan_asks Asks 1 (subst Asks once a)
-
   module _ {A : Algebra} {inner width : ℕ → A.Part} (rows : RowsOf A t inner width) (D : Doing A) {part : A.Part} (by : part ≡ run A width_layout width (items_of (part_fields parts)))
       {at : ℕ} {l l' : D.Lent} {c : D.Cursor} {r : D.Answer} where
     pub plan_done : (count : ℕ) → D.Ask (count * size_of t row) at c → (D.Ask (count * size) at c → D.Did (count * size) at l l' c r (A.elements size (λ k. part) 0 count))
@@ -99,3 +96,22 @@ module _ {t : TypeTable} {sizes alignments : List ℕ} {depth row : ℕ} (ready 
     alone_done a did =
         let once : 1 * size_of t row ≡ size_of t row = omega arith in
         run_one D (plan_done 1 (rw once a) did)
+
+-- ---- what is at hand
+
+-- What is asked for of a row is asked for of its plan.
+pub row_asks : (l : Laid) {depth row : ℕ} → Ready (table_in l) l.sizes.now l.alignments.now depth row → (Asks : ℕ → Type 0) (count : ℕ) → Asks (count * size_of (table_in l) row)
+    → PlanAsks l row Asks count
+row_asks l {row = row} ready Asks count a = go (plan_in l row) refl
+  where
+    go : (plan : Option (List Part)) → plan_in l row ≡ plan → IfSome plan (λ parts. Runnable parts × (parts_size parts ≡ size_in l row) × Asks (count * size_in l row))
+    go None made = tt
+    go (Some parts) made = plan_asks ready made refl Asks count a
+
+-- A value by itself is a run of one.
+pub alone_asks : (l : Laid) {depth row : ℕ} → Ready (table_in l) l.sizes.now l.alignments.now depth row → (Asks : ℕ → Type 0) → Asks (size_of (table_in l) row) → PlanAsks l row Asks 1
+alone_asks l {row = row} ready Asks a = let once : size_of (table_in l) row ≡ 1 * size_of (table_in l) row = omega arith in row_asks l ready Asks 1 (subst Asks once a)
+
+-- Where there is no plan all is as before.
+pub left_alone : {Answer as_before : Type 0} {r : Option Answer} (plan : Option (List Part)) (done : List Part → Answer → Type 0) → r ≡ None → ByPlan plan as_before done r → as_before
+left_alone plan done missing by = (rw missing at by).1

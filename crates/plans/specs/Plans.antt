@@ -1,11 +1,12 @@
 -- Flat values: a bool, or a struct of bools and numbers alone. A plan is a list of their parts.
 -- Assumes nothing.
-use Rattle.std.specs.Prelude.{Bool, true, ◌&&◌, ◌≡◌, All, List, [], ◌∷◌, ◌++◌, map, length, take, drop, replicate, ℕ, zero, suc, ◌+◌, ◌-◌, ◌≤◌, leb, ltb, eqb, if◌then◌else◌, Option, Some, None, MatchOption}
+use Rattle.std.specs.Prelude.{Bool, true, ◌&&◌, ◌≡◌, All, List, [], ◌∷◌, ◌++◌, map, length, take, drop, replicate, slice_index_or, ℕ, zero, suc, ◌+◌, ◌-◌, ◌*◌, ◌≤◌, leb, ltb, eqb, if◌then◌else◌, Option, Some, None, MatchOption, IfSome}
 use Rattle.std.specs.Option.{option_map, option_and_then}
 use Rattle.rules.specs.declared.Layout.{Layout}
 use Rattle.rules.specs.Sizes.{Field, field, layout, fields_size}
 use Rattle.rules.specs.Sound.{width_allowed}
 use Rattle.rules.specs.TypeTable.{kind_in, a_in, b_in}
+use Rattle.layout.specs.declared.laid.Laid.{Laid}
 use Rattle.nesting.specs.declared.Level.{Level}
 use Rattle.nesting.specs.Nesting.{next_part, next_place}
 use Rattle.plans.specs.declared.Width.{Width}
@@ -102,3 +103,18 @@ module _ (rows members alignments : List ℕ) (row : ℕ) where
 abbrev pub PartsPut : Option (List Part) → (lent : List Part) → Option ℕ → (after : List Part) → Type 0
 PartsPut plan lent count after =
     MatchOption count (plan ≡ None) (λ n. (n ≤ 16) × (plan ≡ Some (take n after)) × (drop n after ≡ drop n lent))
+
+-- The plan and the size of a row of what is at hand.
+abbrev pub plan_in : Laid → (row : ℕ) → Option (List Part)
+plan_in l row = plan_of l.rows.now l.members.now l.alignments.now row
+
+abbrev pub size_in : Laid → (row : ℕ) → ℕ
+size_in l row = slice_index_or l.sizes.now row 0
+
+-- What is asked for where many values of a row are done by its plan, if it has one.
+abbrev pub PlanAsks : Laid → (row : ℕ) → (Ask : (need : ℕ) → Type 0) → (count : ℕ) → Type 0
+PlanAsks l row Ask count = IfSome (plan_in l row) (λ parts. Runnable parts × (parts_size parts ≡ size_in l row) × Ask (count * size_in l row))
+
+-- Many values of a row, done by its plan; where there is none, nothing is.
+abbrev pub ByPlan : {Answer : Type 0} → Option (List Part) → (as_before : Type 0) → (done : List Part → Answer → Type 0) → Option Answer → Type 0
+ByPlan plan as_before done r = MatchOption r ((plan ≡ None) × as_before) (λ w. (parts : List Part) × (plan ≡ Some parts) × done parts w)

@@ -1,7 +1,7 @@
 // Flat values, which are bools and numbers alone: the plan that one or many of them are read and written by.
 #![tactic(auto)]
 
-ghost use Rattle.std.specs.Prelude.{◌≡◌, ◌-◌, ◌≤◌, ◌<◌};
+ghost use Rattle.std.specs.Prelude.{◌≡◌, ◌-◌, ◌≤◌, ◌<◌, List, ℕ, false, None};
 ghost use Rattle.plans.specs.Plans.{number_width, flat_width, width_bytes, flat_from, plan_of, PartsPut};
 
 use nesting::{Level, next_part, next_place};
@@ -92,6 +92,19 @@ fn flat_width(rows: &[u32], row: usize) -> Option<Width>
         1 => Some(Width::Boolean),
         2 => number_width(table::a_at(rows, row)),
         _ => None,
+    }
+}
+
+// Whether a row may have a plan: a bool, or a struct whose first member is a bool or a number.
+pub fn may_have_plan(rows: &[u32], members: &[u32], row: usize) -> bool
+    ensures { result ≡ false → (alignments : List ℕ) → plan_of rows.now members.now alignments row ≡ None }
+{
+    let first = table::a_at(rows, row) as usize;
+    let part = table::row_of(members, first) as usize;
+    match table::kind_at(rows, row) {
+        1 => true,
+        7 => table::kind_at(rows, part) <= 2,
+        _ => false,
     }
 }
 

@@ -1,12 +1,11 @@
 -- A struct or an array without parts, as the value walk takes it, and what the scalars ask for.
 -- Assumes nothing.
 use Rattle.std.specs.Prelude.{Ok}
-use mathlib.Core.Bool.{Bool, true, false, ◌||◌}
+use mathlib.Core.Bool.{Bool, true, false}
 use mathlib.Core.List.{List}
 use mathlib.Core.Path.{◌≡◌, refl, sym, ◌∙◌}
 use Prim.Native.Nat.{ℕ, ◌+◌, ◌*◌, ◌≤◌, ◌<◌}
 use native.Mathlib.Omega.{arith}
-use lib.Dec.{eqb}
 use lib.ListN.{length}
 use Rattle.rules.specs.TypeTable.{TypeTable, kind_at, a_at, b_at, member_rows}
 use Rattle.rules.specs.Sizes.{fields_from, fields_of, size_of}
@@ -18,7 +17,7 @@ use Rattle.rules.specs.Sound.{width_allowed}
 use Rattle.layout.specs.Ready.{Ready}
 use Rattle.layout.proofs.Below.{AllBelow}
 use Rattle.layout.proofs.ByKind.{size_array, size_string, number_width, width_positive, array_below}
-use Rattle.nesting.proofs.NoParts.{array_left, struct_empty, array_numbers, size_empty}
+use Rattle.nesting.proofs.NoParts.{struct_empty, array_numbers, size_empty}
 use Rattle.layout.proofs.Readiness.{row_few, ready_at}
 use Rattle.walk_leaves.specs.declared.cursor.Cursor.{Cursor}
 use Rattle.walk_leaves.specs.Doing.{Walked}
@@ -45,23 +44,19 @@ value_empty {t} {depth = depth} {row} ready bytes handles at v o c r e q p n h l
 
 -- ---- an array of numbers
 
-module _ {t : TypeTable} {sizes alignments : List ℕ} {depth row : ℕ} (ready : Ready t sizes alignments depth row) {k a b width : ℕ} {found : Bool} (e : k ≡ kind_at t row)
-    (some : (eqb k 4 || eqb k 7) ≡ true) (other : k ≡ 7 → ⊥) (p : found ≡ has_parts t.rows row) (n : found ≡ false)
-    (f : a ≡ a_at t row) (g : b ≡ b_at t row) (w : width ≡ a_at t a) where
-  q : k ≡ 4
-  q = array_left k some other
-
+module _ {t : TypeTable} {sizes alignments : List ℕ} {depth row : ℕ} (ready : Ready t sizes alignments depth row) {a b width : ℕ} (q : kind_at t row ≡ 4)
+    (n : has_parts t.rows row ≡ false) (f : a ≡ a_at t row) (g : b ≡ b_at t row) (w : width ≡ a_at t a) where
   below : a < row
-  below = rw f (array_below t row ready.sound ready.in_use (sym e ∙ q))
+  below = rw f (array_below t row ready.sound ready.in_use q)
 
   element : Ready t sizes alignments depth a
   element = let h = below in ready_at ready depth a (omega arith) (omega (arith, ready.in_use))
 
   numbered : kind_at t a ≡ 2
-  numbered = rw f (array_numbers t.rows row (row_few ready) (sym p ∙ n) (sym e ∙ q))
+  numbered = rw f (array_numbers t.rows row (row_few ready) n q)
 
   elements_ask : {total handles at : ℕ} {c : Cursor} → Ask total handles (size_of t row) at c → Ask total handles (b * size_of t a) at c
-  elements_ask ask = rw (f, g) (rw (size_array t row (sym e ∙ q) (rw f at below)) at ask)
+  elements_ask ask = rw (f, g) (rw (size_array t row q (rw f at below)) at ask)
 
   pub array_ask : {total handles at : ℕ} {c : Cursor} → Ask total handles (size_of t row) at c
       → (width_allowed width ≡ true) × (at + b * width ≤ 65536) × (c.values < 4294967296)
@@ -70,7 +65,7 @@ module _ {t : TypeTable} {sizes alignments : List ℕ} {depth row : ℕ} (ready 
   pub array_done : (bytes : List ℕ) (handles at : ℕ) (v v' o : List ℕ) (c d : Cursor) → Ask (length bytes) handles (size_of t row) at c
       → DidValues bytes v v' b at c (Ok d) (numbers_at width b) → ValueDid t bytes handles depth v v' o o at c row (Ok d)
   array_done bytes handles at v v' o c d ask did =
-      value_array t bytes handles depth row at v v' o o c (Ok d) e q f g below (numbers_done element refl numbered w bytes handles at b v v' o c d (elements_ask ask) did)
+      value_array t bytes handles depth row at v v' o o c (Ok d) refl q f g below (numbers_done element refl numbered w bytes handles at b v v' o c d (elements_ask ask) did)
 
 -- ---- what the scalars ask for
 

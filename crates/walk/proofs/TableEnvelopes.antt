@@ -1,6 +1,6 @@
 -- A table's envelopes in turn: absent ones, and those with content.
 -- Assumes nothing.
-use Rattle.std.specs.Prelude.{Err, Ok, Option, Result}
+use Rattle.std.specs.Prelude.{Err, Ok, Option}
 use mathlib.Core.List.{List}
 use mathlib.Core.Path.{◌≡◌, refl, sym, ap, ◌∙◌}
 use Prim.Native.Nat.{ℕ, ◌+◌, ◌-◌, ◌*◌, ◌≤◌, ◌<◌}

@@ -1,6 +1,6 @@
 -- What the functions of cycle.rt promise.
 -- Assumes nothing.
-use Rattle.std.specs.Prelude.{List, ℕ, ◌*◌, eqb, length, Option, Result}
+use Rattle.std.specs.Prelude.{List, ℕ, ◌*◌, eqb, length, Option}
 use Rattle.rules.specs.TypeTable.{TypeTable, a_at, b_at, content_of}
 use Rattle.rules.specs.Sizes.{size_of}
 use Rattle.rules.specs.Decode as D

@@ -1,6 +1,6 @@
 // Value walk, element walk and envelope walk: they call each other until the depth is spent. Rows of smaller numbers stand
 // in line; whatever stands out of line is one level down.
-ghost use Rattle.std.specs.Prelude.{true, ◌≡◌, ◌*◌, ◌<◌, length};
+ghost use Rattle.std.specs.Prelude.{true, false, ◌≡◌, ◌*◌, ◌<◌, List, ℕ, length};
 ghost use Rattle.rules.specs.TypeTable.{kind_at};
 ghost use Rattle.rules.specs.Sizes.{size_of};
 ghost use Rattle.walk_leaves.specs.Doing.{Ask, cursor_at};
@@ -14,7 +14,7 @@ use nesting::{Level, NESTED, Step};
 use rules::{Fault, Refusal};
 use walk_leaves::claims::fill_at;
 use walk_leaves::cursor::{Cursor, gave, refused};
-use walk_leaves::planned::planned;
+use walk_leaves::planned::by_plan;
 use walk_leaves::scalars::{boolean, handle, number, numbers};
 use walk_leaves::strict_rows::strict_values;
 use walk_records::envelopes::{Member, known_opened, sealed, union_member, unknown_content};
@@ -67,9 +67,7 @@ pub fn value(
         if kind == 7 {
             return fill_at(bytes, at, 1, c);
         }
-        let width = table::a_at(rows, a as usize);
-        let count = table::b_at(rows, row) as usize;
-        return Ok(numbers(bytes, values, width, count, at, c));
+        return array_of_numbers(laid, bytes, held, values, depth, row, at, c);
     }
     if kind == 6 {
         let largest = table::b_at(rows, row);
@@ -82,9 +80,30 @@ pub fn value(
     out_of_line(laid, bytes, held, values, objects, depth, row, at, c)
 }
 
-// As many values of a row as there are, one after the other. Kept out of line, so that its plan lies on no stack of nested structs.
+// An array of numbers. A function of its own, so that `value`, which calls itself, has less on the stack.
+fn array_of_numbers(
+    laid: &Laid<'_>,
+    bytes: &[u8],
+    held: usize,
+    values: &mut [u64],
+    depth: usize,
+    row: usize,
+    at: usize,
+    c: Cursor,
+) -> Result<Cursor, Fault>
+    requires { Ready (table_in laid.now) laid.now.sizes.now laid.now.alignments.now depth row × (kind_at (table_in laid.now) row ≡ 4) × (has_parts laid.now.rows.now row ≡ false)
+        × Ask (length bytes.now) held (size_of (table_in laid.now) row) at c }
+    ensures { (objects : List ℕ) → ValueDid (table_in laid.now) bytes.now held depth values.old values.new objects objects at c row result }
+{
+    let Laid { rows, .. } = *laid;
+    let element = table::a_at(rows, row) as usize;
+    let width = table::a_at(rows, element);
+    let count = table::b_at(rows, row) as usize;
+    Ok(numbers(bytes, values, width, count, at, c))
+}
+
+// As many values of a row as there are, one after the other.
 #[cycle(composite_content_elements_envelopes_out_of_line_value)]
-#[inline(never)]
 fn elements(
     laid: &Laid<'_>,
     bytes: &[u8],
@@ -102,10 +121,9 @@ fn elements(
 {
     let Laid {
         rows,
-        members,
         entries,
         sizes,
-        alignments,
+        ..
     } = *laid;
     let kind = table::kind_at(rows, row);
     if kind == 2 {
@@ -115,11 +133,10 @@ fn elements(
     if (kind == 11) | (kind == 12) {
         return strict_values(rows, entries, bytes, values, row, count, at, c);
     }
-    let size = words::item_at(sizes, row) as usize;
-    let mut parts = [plans::NO_PART; 16];
-    if let Some(many) = plans::plan_into(rows, members, alignments, row, &mut parts) {
-        return planned(bytes, values, &parts[..many], size, count, at, c);
+    if let Some(done) = by_plan(laid, bytes, values, row, count, at, c) {
+        return done;
     }
+    let size = words::item_at(sizes, row) as usize;
     let mut d = c;
     let mut place = at;
     for _ in 0..count {
@@ -156,16 +173,12 @@ fn composite(
         alignments,
         ..
     } = *laid;
-    // one of bools and numbers alone goes by a plan, which can be only where its first member is one of them
+    // one of bools and numbers alone
+    if let Some(done) = by_plan(laid, bytes, values, row, 1, at, c) {
+        return done;
+    }
     let first = table::a_at(rows, row) as usize;
     let part = table::row_of(members, first) as usize;
-    if table::kind_at(rows, part) <= 2 {
-        let mut parts = [plans::NO_PART; 16];
-        if let Some(count) = plans::plan_into(rows, members, alignments, row, &mut parts) {
-            let size = words::item_at(sizes, row) as usize;
-            return planned(bytes, values, &parts[..count], size, 1, at, c);
-        }
-    }
     // a struct of one member that has no parts itself: the member, and the fill after it
     if (table::kind_at(rows, row) == 7)
         & (table::b_at(rows, row) == 1)
@@ -226,10 +239,8 @@ fn composite(
     }
 }
 
-// A value whose record leads out of line: vector, box, table or union. Kept out of line itself, so that what it needs lies on the stack once
-// for each object, and not at each level of nested structs.
+// A value whose record leads out of line: vector, box, table or union.
 #[cycle(composite_content_elements_envelopes_out_of_line_value)]
-#[inline(never)]
 fn out_of_line(
     laid: &Laid<'_>,
     bytes: &[u8],

@@ -33,7 +33,7 @@ use Rattle.walk_leaves.proofs.Reading.{decoders_grouped, reading_any}
 use Rattle.walk_leaves.proofs.Steps.{did_nothing, did_more}
 
 -- A number of a width that is allowed, at the row that stands for it.
-number_row : (m : Message) (bytes : ℕ) → width_allowed bytes ≡ true → width_at m bytes ≡ decode_word m bytes
+pub number_row : (m : Message) (bytes : ℕ) → width_allowed bytes ≡ true → width_at m bytes ≡ decode_word m bytes
 number_row m bytes allowed = rw (ne_eqb bytes 0 (λ z. omega (arith, width_positive bytes allowed)))
 
 -- ---- one part, and fill

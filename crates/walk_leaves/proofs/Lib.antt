@@ -1,9 +1,10 @@
+pub mod LowBytes
 pub mod Steps
 pub mod Results
 pub mod InLine
 pub mod Objects
 pub mod Reading
 pub mod ByPlan
-pub mod Bools
 pub mod OneWidth
+pub mod Bools
 pub mod Strict

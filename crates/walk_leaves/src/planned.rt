@@ -1,16 +1,16 @@
 // Values of bools and numbers alone, by a plan that is made once for many of them.
-ghost use Rattle.std.specs.Prelude.{true, ◌≡◌, [], ◌∷◌, ◌+◌, ◌*◌, ◌≤◌, ◌<◌, length, replicate, IfSome};
+ghost use Rattle.std.specs.Prelude.{true, ◌≡◌, ◌+◌, ◌*◌, ◌≤◌, ◌<◌, length, replicate, IfSome};
 ghost use Rattle.rules.specs.Decode.{elements, fill};
 ghost use Rattle.rules.specs.Sizes.{field};
-ghost use Rattle.rules.specs.Sound.{width_allowed};
-ghost use Rattle.plans.specs.Plans.{runnable, Runnable, width_row, part_fields, parts_size};
+ghost use Rattle.plans.specs.Plans.{runnable, Runnable, width_row, part_fields, parts_size, plan_in, size_in, PlanAsks};
 ghost use Rattle.walk_leaves.specs.Doing.{Ask};
 ghost use Rattle.walk_leaves.specs.Parts.{DidValues, DidNeither};
-ghost use Rattle.walk_leaves.specs.Planning.{width_at, parts_at, DidAsked};
+ghost use Rattle.walk_leaves.specs.Planning.{width_at, parts_at, DidAsked, DidByPlan};
 
 use crate::claims::fill_at;
-use crate::cursor::Cursor;
-use crate::scalars::{boolean, number, numbers};
+use crate::cursor::{Cursor, gave};
+use crate::scalars::{boolean, number_among, numbers};
+use layout::laid::Laid;
 use plans::{Part, Width};
 use rules::Fault;
 
@@ -22,7 +22,7 @@ fn part(
     at: usize,
     c: Cursor,
 ) -> Result<Cursor, Fault>
-    requires { (runnable width ≡ true) × (c.values < 4294967296) }
+    requires { (runnable width ≡ true) × (c.values < 4294967296) × (at ≤ 65536) }
     ensures { DidValues bytes.now values.old values.new 1 at c result (λ m. width_at m (width_row width)) }
 {
     match width {
@@ -34,7 +34,8 @@ fn part(
                     ..c
                 });
             }
-            number(bytes, values, count, at, c)
+            let x = number_among(bytes, count, at);
+            Ok(gave(values, x, c))
         }
     }
 }
@@ -73,34 +74,18 @@ fn one(
     Ok(d)
 }
 
-// Whether a plan is that of a bool alone.
-fn is_bool(parts: &[Part]) -> bool
-    ensures { result ≡ true → part_fields parts.now ≡ field 0 0 ∷ [] }
-{
-    match parts {
-        [only] => (only.width == Width::Boolean) & (only.fill == 0),
-        _ => false,
-    }
-}
-
-// The width of a plan of numbers of one width and no fill: its values are a run of such numbers.
-fn one_width(parts: &[Part]) -> Option<u32>
+// The width of a plan whose parts are all of one width and have no fill: its values are a run.
+fn one_width(parts: &[Part]) -> Option<Width>
     requires { Runnable parts.now }
-    ensures { IfSome result (λ width. (width_allowed width ≡ true) × (part_fields parts.now ≡ replicate (length parts.now) (field width 0))) }
+    ensures { IfSome result (λ width. (runnable width ≡ true) × (part_fields parts.now ≡ replicate (length parts.now) (field (width_row width) 0))) }
 {
-    if parts.is_empty() {
-        return None;
-    }
-    let first = parts[0];
-    let Width::Bytes(width) = first.width else {
-        return None;
-    };
+    let first = parts.first()?;
     for p in parts {
         if p.width != first.width || p.fill != 0 {
             return None;
         }
     }
-    Some(width)
+    Some(first.width)
 }
 
 // As many values as there are, one after the other, each of so many bytes. Bools none of which is above 1 are given all at
@@ -118,14 +103,17 @@ pub fn planned(
     ensures { DidAsked bytes.now values.old values.new (count * size) at c result
         (λ m. elements size (λ i. parts_at parts.now m) 0 count) }
 {
-    if is_bool(parts) {
-        let stop = at + count;
-        if words::bits_of(&bytes[at..stop]) <= 1 {
-            return Ok(numbers(bytes, values, 1, count, at, c));
-        }
-    }
     if let Some(width) = one_width(parts) {
-        return Ok(numbers(bytes, values, width, count * parts.len(), at, c));
+        let all = count * parts.len();
+        match width {
+            Width::Bytes(bytes_each) => return Ok(numbers(bytes, values, bytes_each, all, at, c)),
+            Width::Boolean => {
+                let stop = at + all;
+                if words::bits_of(&bytes[at..stop]) <= 1 {
+                    return Ok(numbers(bytes, values, 1, all, at, c));
+                }
+            }
+        }
     }
     let mut d = c;
     let mut place = at;
@@ -134,4 +122,52 @@ pub fn planned(
         place += size;
     }
     Ok(d)
+}
+
+// As many values as there are of a row that has a plan, by that plan. A call of its own, so that the plan lies on no stack of the
+// walk's levels.
+#[inline(never)]
+fn made_and_done(
+    laid: &Laid<'_>,
+    bytes: &[u8],
+    values: &mut [u64],
+    row: usize,
+    count: usize,
+    at: usize,
+    c: Cursor,
+) -> Option<Result<Cursor, Fault>>
+    requires { PlanAsks laid.now row (λ need. Ask (length bytes.now) 64 need at c) count }
+    ensures { DidByPlan (plan_in laid.now row) bytes.now values.old values.new (size_in laid.now row) count at c result }
+{
+    let Laid {
+        rows,
+        members,
+        sizes,
+        alignments,
+        ..
+    } = *laid;
+    let mut parts = [plans::NO_PART; 16];
+    let many = plans::plan_into(rows, members, alignments, row, &mut parts)?;
+    let size = words::item_at(sizes, row) as usize;
+    Some(planned(bytes, values, &parts[..many], size, count, at, c))
+}
+
+// The same for any row, tried only where there may be a plan.
+#[inline(always)]
+pub fn by_plan(
+    laid: &Laid<'_>,
+    bytes: &[u8],
+    values: &mut [u64],
+    row: usize,
+    count: usize,
+    at: usize,
+    c: Cursor,
+) -> Option<Result<Cursor, Fault>>
+    requires { PlanAsks laid.now row (λ need. Ask (length bytes.now) 64 need at c) count }
+    ensures { DidByPlan (plan_in laid.now row) bytes.now values.old values.new (size_in laid.now row) count at c result }
+{
+    if !plans::may_have_plan(laid.rows, laid.members, row) {
+        return None;
+    }
+    made_and_done(laid, bytes, values, row, count, at, c)
 }

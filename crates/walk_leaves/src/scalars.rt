@@ -1,5 +1,5 @@
 // Values that stand in line: bools, numbers, handles, and runs of numbers.
-ghost use Rattle.std.specs.Prelude.{◌≡◌, true, ◌+◌, ◌*◌, ◌≤◌, ◌<◌, eqb, length, Ok};
+ghost use Rattle.std.specs.Prelude.{◌≡◌, true, ◌+◌, ◌-◌, ◌*◌, ◌^◌, ◌≤◌, ◌<◌, eqb, length, Ok};
 ghost use Rattle.std.proofs.lemmas.List.Edits.{sets};
 ghost use Rattle.rules.specs.Bytes.{word};
 ghost use Rattle.rules.specs.Envelope.{decode_word};
@@ -40,13 +40,38 @@ pub(crate) fn number_of(bytes: &[u8], width: u32, at: usize) -> u64
     words::item_at(bytes, at) as u64
 }
 
-// The same by a call of its own: where numbers stand among other parts, it leaves the registers to these.
+// The same by a call of its own, where a number stands alone or near the end of the bytes.
 #[inline(never)]
 fn number_apart(bytes: &[u8], width: u32, at: usize) -> u64
     requires { width_allowed width ≡ true }
     ensures { result ≡ word bytes.now at width }
 {
     number_of(bytes, width, at)
+}
+
+// The bits that a number of so many bytes has.
+fn mask_of(width: u32) -> u64
+    requires { width_allowed width ≡ true }
+    ensures { result ≡ 2 ^ (8 * width) - 1 }
+{
+    match width {
+        1 => 0xff,
+        2 => 0xffff,
+        4 => 0xffff_ffff,
+        _ => u64::MAX,
+    }
+}
+
+// The number of so many bytes at a place, where others of other widths stand beside it: the low part of eight bytes, so that
+// there is no branch for its width.
+pub(crate) fn number_among(bytes: &[u8], width: u32, at: usize) -> u64
+    requires { (width_allowed width ≡ true) × (at ≤ 65536) }
+    ensures { result ≡ word bytes.now at width }
+{
+    if bytes.len() < at + 8 {
+        return number_apart(bytes, width, at);
+    }
+    u64::load(&bytes[at..at + 8], 0) & mask_of(width)
 }
 
 pub fn number(

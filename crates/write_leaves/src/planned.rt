@@ -1,12 +1,13 @@
 // Values of bools and numbers alone, by a plan that is made once for many of them.
 ghost use Rattle.std.specs.Prelude.{true, ◌≡◌, ◌*◌};
 ghost use Rattle.rules.specs.Encode.{elements};
-ghost use Rattle.plans.specs.Plans.{runnable, Runnable, width_bytes, width_row, parts_size};
+ghost use Rattle.plans.specs.Plans.{runnable, Runnable, width_bytes, width_row, parts_size, plan_in, size_in, PlanAsks};
 ghost use Rattle.write_leaves.specs.Putting.{Stands, Ask, PutsInLine};
-ghost use Rattle.write_leaves.specs.Planning.{width_as, parts_as, PutAsked};
+ghost use Rattle.write_leaves.specs.Planning.{width_as, parts_as, PutAsked, PutByPlan};
 
 use crate::cursor::{Cursor, put_zeros};
 use crate::scalars::{boolean, number};
+use layout::laid::Laid;
 use plans::{Part, Width};
 use rules::Fault;
 
@@ -44,7 +45,8 @@ fn one(
     Ok(d)
 }
 
-// As many values as there are, one after the other, each of so many bytes.
+// As many values as there are, one after the other, each of so many bytes. Out of line, as its loops take all registers.
+#[inline(never)]
 pub fn planned(
     values: &[u64],
     out: &mut [u8],
@@ -64,4 +66,52 @@ pub fn planned(
         place += size;
     }
     Ok(d)
+}
+
+// As many values as there are of a row that has a plan, by that plan. A call of its own, so that the plan lies on no stack of the
+// walk's levels.
+#[inline(never)]
+fn made_and_put(
+    laid: &Laid<'_>,
+    values: &[u64],
+    out: &mut [u8],
+    row: usize,
+    count: usize,
+    at: usize,
+    c: Cursor,
+) -> Option<Result<Cursor, Fault>>
+    requires { PlanAsks laid.now row (λ need. Ask values.now need at 0 c) count }
+    ensures { PutByPlan (plan_in laid.now row) values.now out.old out.new (size_in laid.now row) count at c result }
+{
+    let Laid {
+        rows,
+        members,
+        sizes,
+        alignments,
+        ..
+    } = *laid;
+    let mut parts = [plans::NO_PART; 16];
+    let many = plans::plan_into(rows, members, alignments, row, &mut parts)?;
+    let size = words::item_at(sizes, row) as usize;
+    Some(planned(values, out, &parts[..many], size, count, at, c))
+}
+
+// The same for any row, tried only where there may be a plan.
+#[inline(always)]
+pub fn by_plan(
+    laid: &Laid<'_>,
+    values: &[u64],
+    out: &mut [u8],
+    row: usize,
+    count: usize,
+    at: usize,
+    c: Cursor,
+) -> Option<Result<Cursor, Fault>>
+    requires { PlanAsks laid.now row (λ need. Ask values.now need at 0 c) count }
+    ensures { PutByPlan (plan_in laid.now row) values.now out.old out.new (size_in laid.now row) count at c result }
+{
+    if !plans::may_have_plan(laid.rows, laid.members, row) {
+        return None;
+    }
+    made_and_put(laid, values, out, row, count, at, c)
 }

@@ -14,7 +14,7 @@ use nesting::{Level, NESTED, Step};
 use rules::{Fault, Refusal};
 use words::Word;
 use write_leaves::cursor::{Cursor, put_zeros, refused, took};
-use write_leaves::planned::planned;
+use write_leaves::planned::by_plan;
 use write_leaves::scalars::{boolean, handle, number, numbers};
 use write_leaves::strict_rows::strict_values;
 use write_records::envelopes::{Member, sealed, union_member, unknown_content};
@@ -82,9 +82,8 @@ pub fn value(
     out_of_line(laid, values, out, base, depth, row, at, c)
 }
 
-// So many values of a row, one after the other. Kept out of line, so that its plan lies on no stack of nested structs.
+// So many values of a row, one after the other.
 #[cycle(composite_content_elements_envelopes_object_out_of_line_single_value)]
-#[inline(never)]
 fn elements(
     laid: &Laid<'_>,
     values: &[u64],
@@ -102,10 +101,9 @@ fn elements(
 {
     let Laid {
         rows,
-        members,
         entries,
         sizes,
-        alignments,
+        ..
     } = *laid;
     let kind = table::kind_at(rows, row);
     if kind == 2 {
@@ -115,11 +113,10 @@ fn elements(
     if (kind == 11) | (kind == 12) {
         return strict_values(rows, entries, values, out, row, count, at, c);
     }
-    let size = words::item_at(sizes, row) as usize;
-    let mut parts = [plans::NO_PART; 16];
-    if let Some(many) = plans::plan_into(rows, members, alignments, row, &mut parts) {
-        return planned(values, out, &parts[..many], size, count, at, c);
+    if let Some(done) = by_plan(laid, values, out, row, count, at, c) {
+        return done;
     }
+    let size = words::item_at(sizes, row) as usize;
     let mut d = c;
     let mut place = at;
     for _ in 0..count {
@@ -154,15 +151,9 @@ fn composite(
         alignments,
         ..
     } = *laid;
-    // one of bools and numbers alone goes by a plan, which can be only where its first member is one of them
-    let first = table::a_at(rows, row) as usize;
-    let part = table::row_of(members, first) as usize;
-    if table::kind_at(rows, part) <= 2 {
-        let mut parts = [plans::NO_PART; 16];
-        if let Some(count) = plans::plan_into(rows, members, alignments, row, &mut parts) {
-            let size = words::item_at(sizes, row) as usize;
-            return planned(values, out, &parts[..count], size, 1, at, c);
-        }
+    // one of bools and numbers alone
+    if let Some(done) = by_plan(laid, values, out, row, 1, at, c) {
+        return done;
     }
     let mut kept = [Level {
         row: 0,

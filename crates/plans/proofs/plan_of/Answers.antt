@@ -1,5 +1,4 @@
 -- `plans::plan_of` meets its contract: past the parts its array is as it was made.
-use Rattle.plans.specs.Plans.{PartsPut}
 use Rattle.plans.proofs.Padding.{padded_end}
 use Rattle.plans.proofs.plan_of.Goals as goal
 

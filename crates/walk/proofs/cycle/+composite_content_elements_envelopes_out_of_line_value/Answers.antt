@@ -12,7 +12,7 @@ use Rattle.rules.proofs.Passing.{err_passed, ok_is}
 use Rattle.layout.specs.Ready.{table_in}
 use Rattle.layout.proofs.Readiness.{row_few, row_in_use, row_size, size_small, ready_at}
 use Rattle.ordinals.proofs.Members.{members_rise, ordinal_content, ordinal_fits, vector_in_use, box_in_use, table_members, union_members, union_else}
-use Rattle.nesting.proofs.NoParts.{outside_left}
+use Rattle.nesting.proofs.NoParts.{outside_left, array_left}
 use Rattle.nesting.proofs.Runs.{run_asks, run_stopped, run_end}
 use Rattle.nesting.proofs.Counted.{turns_start, turns_next}
 use Rattle.walk_records.proofs.Levels.{level_left}
@@ -21,11 +21,12 @@ use Rattle.walk.proofs.Contents.{content_unknown, content_closed, content_not_op
 use Rattle.walk_records.proofs.Unions.{member_fits}
 use Rattle.walk.proofs.OutOfLine.{elements_few, vector_record, box_record, table_record_lem, union_record_lem, vector_closed, vector_refused, vector_asks, vector_done, box_absent, box_refused, box_asks, box_done, table_closed, table_refused, table_asks, table_done, union_none, union_bad, union_asks, union_done}
 use Rattle.walk.proofs.Numbers.{numbers_ask, numbers_done}
+use Rattle.plans.proofs.Rows.{left_alone}
 use Rattle.walk.proofs.Plans.{planned_ask, planned_done, alone_ask, alone_done}
 use Rattle.walk.proofs.StrictRows.{strict_run_ask, strict_ask, strict_run_done, strict_done}
-use Rattle.walk.proofs.TableEnvelopes.{EnvelopesLeft, envelopes_start, envelopes_end, content_asks, last_absent, one_absent, one_present, one_refused, one_lengths}
+use Rattle.walk.proofs.TableEnvelopes.{EnvelopesLeft, envelopes_start, envelopes_end, content_asks, last_absent, one_absent, one_present, one_refused}
 use Rattle.walk.proofs.Values.{value_bool, value_number, value_handle, value_string}
-use Rattle.walk.proofs.NoParts.{value_empty, array_ask, array_done, number_ask, string_ask}
+use Rattle.walk.proofs.NoParts.{value_empty, number_ask, string_ask}
 use Rattle.walk.proofs.Turns.{walking_start, state_known, turn_fill, turn_filled, turn_fill_refused, turn_into, turn_call, turn_called, turn_call_refused, turn_out, turn_done}
 use Rattle.walk.proofs.OneMember.{one_member, member_asks, fill_asks, member_refused, member_filled}
 use Rattle.walk.proofs.cycle.+composite_content_elements_envelopes_out_of_line_value.Goals as goal
@@ -33,17 +34,15 @@ use Rattle.walk.proofs.cycle.+composite_content_elements_envelopes_out_of_line_v
 
 -- ---- composite: structs and arrays
 
-pub composite-planned-requires : goal.composite-planned-requires
-composite-planned-requires t c =
-    alone_ask c.requires.0 (rw c.in-Some.is at c.plan_into.ensures).1 c.item_at-size.ensures c.requires.2
+pub composite-by_plan-requires : goal.composite-by_plan-requires
+composite-by_plan-requires t c = alone_ask c.args.laid.now c.requires.0 c.requires.2
 
 pub composite-returns-in-Some : goal.composite-returns-in-Some
-composite-returns-in-Some t c =
-    alone_done c.requires.0 (rw c.in-Some.is at c.plan_into.ensures).1 c.item_at-size.ensures _ _ _ _ _ _ _ _ c.requires.2 c.planned.ensures
+composite-returns-in-Some t c = alone_done c.args.laid.now c.requires.0 _ _ _ _ _ _ _ _ c.requires.2 (rw c.in-Some.is at c.by_plan.ensures)
 
 pub composite-value-requires : goal.composite-value-requires
 composite-value-requires t c =
-    let one = one_member c.requires.0 _ c.kind_at-2.ensures c.b_at.ensures c.if-kind_at-b_at.true in
+    let one = one_member c.requires.0 _ c.kind_at.ensures c.b_at.ensures c.if-kind_at-b_at.true in
     let k = member_asks c.requires.0 c.requires.1 one c.a_at-first.ensures c.row_of-part.ensures c.requires.2 in
     (omega (arith, k.2), (k.0, k.1))
 
@@ -57,23 +56,23 @@ composite-overflow_add-fill t c =
 
 pub composite-overflow_sub-fill : goal.composite-overflow_sub-fill
 composite-overflow_sub-fill t c =
-    let one = one_member c.requires.0 _ c.kind_at-2.ensures c.b_at.ensures c.if-kind_at-b_at.true in
+    let one = one_member c.requires.0 _ c.kind_at.ensures c.b_at.ensures c.if-kind_at-b_at.true in
     (fill_asks c.requires.0 c.requires.1 one c.a_at-first.ensures c.row_of-part.ensures c.requires.2 c.item_at.ensures c.item_at-then-kind_at-b_at.ensures).0
 
 pub composite-fill_at-requires : goal.composite-fill_at-requires
 composite-fill_at-requires t c =
-    let one = one_member c.requires.0 _ c.kind_at-2.ensures c.b_at.ensures c.if-kind_at-b_at.true in
+    let one = one_member c.requires.0 _ c.kind_at.ensures c.b_at.ensures c.if-kind_at-b_at.true in
     omega (arith, fill_asks c.requires.0 c.requires.1 one c.a_at-first.ensures c.row_of-part.ensures c.requires.2 c.item_at.ensures c.item_at-then-kind_at-b_at.ensures)
 
 pub composite-returns-then-kind_at-b_at : goal.composite-returns-then-kind_at-b_at
 composite-returns-then-kind_at-b_at t c =
-    let one = one_member c.requires.0 _ c.kind_at-2.ensures c.b_at.ensures c.if-kind_at-b_at.true in
-    member_filled c.requires.0 c.requires.1 one c.a_at-first.ensures c.row_of-part.ensures _ _ _ _ _ _ _ _ c.requires.2 c.value.ensures c.in_ok-d.was c.item_at.ensures c.item_at-then-kind_at-b_at.ensures _ c.fill_at.ensures
+    let one = one_member c.requires.0 _ c.kind_at.ensures c.b_at.ensures c.if-kind_at-b_at.true in
+    rw (left_alone _ _ c.in_default.is c.by_plan.ensures) at (member_filled c.requires.0 c.requires.1 one c.a_at-first.ensures c.row_of-part.ensures _ _ _ _ _ _ _ _ c.requires.2 c.value.ensures c.in_ok-d.was c.item_at.ensures c.item_at-then-kind_at-b_at.ensures _ c.fill_at.ensures)
 
 pub composite-returns-in_err-d : goal.composite-returns-in_err-d
 composite-returns-in_err-d t c =
-    let one = one_member c.requires.0 _ c.kind_at-2.ensures c.b_at.ensures c.if-kind_at-b_at.true in
-    rw (err_passed c.from_residual.ensures.1) (member_refused c.requires.0 c.requires.1 one c.a_at-first.ensures c.row_of-part.ensures _ _ _ _ _ _ _ _ c.requires.2 c.value.ensures c.in_err-d.was)
+    let one = one_member c.requires.0 _ c.kind_at.ensures c.b_at.ensures c.if-kind_at-b_at.true in
+    rw (err_passed c.from_residual.ensures.1) (rw (left_alone _ _ c.in_default.is c.by_plan.ensures) at (member_refused c.requires.0 c.requires.1 one c.a_at-first.ensures c.row_of-part.ensures _ _ _ _ _ _ _ _ c.requires.2 c.value.ensures c.in_err-d.was))
 
 pub composite-loop-next-init : goal.composite-loop-next-init
 composite-loop-next-init t c = (c.requires.0, walking_start c.requires.0 _ _ refl c.requires.1 c.requires.2)
@@ -106,7 +105,7 @@ composite-loop-next-preserved-in-Fill t c =
 pub composite-returns-in_err-d-in-Fill : goal.composite-returns-in_err-d-in-Fill
 composite-returns-in_err-d-in-Fill t c =
     let loop = c.loop-next in
-    rw (err_passed c.from_residual-in_err-d-in-Fill.ensures.1) (turn_fill_refused loop.invariant.0 loop.invariant.1 c.next_step.ensures c.in-Fill.is c.fill_at-in-Fill.ensures c.in_err-d-in-Fill.was)
+    rw (err_passed c.from_residual-in_err-d-in-Fill.ensures.1) (rw (left_alone _ _ c.in_default.is c.by_plan.ensures) at (turn_fill_refused loop.invariant.0 loop.invariant.1 c.next_step.ensures c.in-Fill.is c.fill_at-in-Fill.ensures c.in_err-d-in-Fill.was))
 
 pub composite-bounds-kept-around : goal.composite-bounds-kept-around
 composite-bounds-kept-around t c =
@@ -146,7 +145,7 @@ composite-loop-next-preserved-in-Call t c =
 pub composite-returns-in_err-d-in-Call : goal.composite-returns-in_err-d-in-Call
 composite-returns-in_err-d-in-Call t c =
     let loop = c.loop-next in
-    rw (err_passed c.from_residual-in_err-d-in-Call.ensures.1) (turn_call_refused loop.invariant.0 loop.invariant.1 c.next_step.ensures c.in-Call.is c.value-in-Call.ensures c.in_err-d-in-Call.was)
+    rw (err_passed c.from_residual-in_err-d-in-Call.ensures.1) (rw (left_alone _ _ c.in_default.is c.by_plan.ensures) at (turn_call_refused loop.invariant.0 loop.invariant.1 c.next_step.ensures c.in-Call.is c.value-in-Call.ensures c.in_err-d-in-Call.was))
 
 pub composite-overflow_sub-around : goal.composite-overflow_sub-around
 composite-overflow_sub-around t c =
@@ -166,7 +165,7 @@ composite-loop-next-preserved t c =
 pub composite-returns-in-Done : goal.composite-returns-in-Done
 composite-returns-in-Done t c =
     let loop = c.loop-next in
-    turn_done loop.invariant.0 loop.invariant.1 c.next_step.ensures c.in-Done.is
+    rw (left_alone _ _ c.in_default.is c.by_plan.ensures) at (turn_done loop.invariant.0 loop.invariant.1 c.next_step.ensures c.in-Done.is)
 
 -- ---- content: an envelope's content
 
@@ -227,11 +226,11 @@ pub elements-returns-then-kind : goal.elements-returns-then-kind
 elements-returns-then-kind t c =
     strict_run_done c.requires.0 c.kind_at-kind.ensures c.if-kind.true _ _ _ _ _ _ _ _ _ c.requires.1 c.strict_values.ensures
 
-pub elements-planned-requires : goal.elements-planned-requires
-elements-planned-requires t c = planned_ask c.requires.0 (rw c.in-Some.is at c.plan_into.ensures).1 c.item_at-size.ensures _ c.requires.1
+pub elements-by_plan-requires : goal.elements-by_plan-requires
+elements-by_plan-requires t c = planned_ask c.args.laid.now c.requires.0 _ c.requires.1
 
 pub elements-returns-in-Some : goal.elements-returns-in-Some
-elements-returns-in-Some t c = planned_done c.requires.0 (rw c.in-Some.is at c.plan_into.ensures).1 c.item_at-size.ensures _ _ _ _ _ _ _ _ _ c.requires.1 c.planned.ensures
+elements-returns-in-Some t c = planned_done c.args.laid.now c.requires.0 _ _ _ _ _ _ _ _ _ c.requires.1 (rw c.in-Some.is at c.by_plan.ensures)
 
 pub elements-loop-init : goal.elements-loop-init
 elements-loop-init t c = (turns_start _ _ refl c.requires.1, search rules, search rules)
@@ -240,7 +239,8 @@ pub elements-value-requires : goal.elements-value-requires
 elements-value-requires t c = (omega arith, (search rules, run_asks c.loop.invariant.0 (omega arith)))
 
 pub elements-returns-in_err-d : goal.elements-returns-in_err-d
-elements-returns-in_err-d t c = rw (err_passed c.from_residual.ensures.1) (run_stopped c.loop.invariant.0 (omega arith) c.value.ensures c.in_err-d.was)
+elements-returns-in_err-d t c =
+    rw (err_passed c.from_residual.ensures.1) (rw (left_alone _ _ c.in_default.is c.by_plan.ensures) at (run_stopped c.loop.invariant.0 (omega arith) c.value.ensures c.in_err-d.was))
 
 pub elements-loop-preserved : goal.elements-loop-preserved
 elements-loop-preserved t c =
@@ -248,7 +248,7 @@ elements-loop-preserved t c =
     (turns_next c.loop.invariant.0 (omega arith) c.value.ensures (row_size r _ r.in_use c.item_at-size.ensures) c.in_ok-d.was, search rules, search rules)
 
 pub elements-returns : goal.elements-returns
-elements-returns t c = run_end c.loop.invariant.0 (omega arith)
+elements-returns t c = rw (left_alone _ _ c.in_default.is c.by_plan.ensures) at (run_end c.loop.invariant.0 (omega arith))
 
 -- ---- envelopes: a table's envelopes
 
@@ -429,12 +429,12 @@ value-composite-requires t c =
 pub value-returns-then-kind-eq7 : goal.value-returns-then-kind-eq7
 value-returns-then-kind-eq7 t c = search (rules, value_empty)
 
-pub value-numbers-requires : goal.value-numbers-requires
-value-numbers-requires t c =
-    array_ask c.requires.0 c.kind_at-kind.ensures c.if-kind.true c.if-kind-eq7.false c.has_parts.ensures c.if-has_parts.false c.a_at-a.ensures c.b_at-count.ensures c.a_at-width.ensures c.requires.1
+pub value-array_of_numbers-requires : goal.value-array_of_numbers-requires
+value-array_of_numbers-requires t c =
+    (c.requires.0, sym c.kind_at-kind.ensures ∙ array_left _ c.if-kind.true c.if-kind-eq7.false, sym c.has_parts.ensures ∙ c.if-has_parts.false, c.requires.1)
 
 pub value-returns-then-kind : goal.value-returns-then-kind
-value-returns-then-kind t c = search (rules, array_done)
+value-returns-then-kind t c = c.array_of_numbers.ensures c.args.objects.now
 
 pub value-string-requires : goal.value-string-requires
 value-string-requires t c =

@@ -19,7 +19,8 @@ overflow_add-stop c =
 pub part-requires : goal.part-requires
 part-requires c =
     let p = parts_open c.args.parts.now c.loop-p.p-index c.loop-p.invariant.0 c.loop-p-test.true in
-    (part_allowed p, omega (arith, part_asks p))
+    let a = part_asks p in
+    (part_allowed p, omega (arith, a), omega (arith, a.inside, a.short))
 
 pub filled-requires : goal.filled-requires
 filled-requires c =

@@ -1,44 +1,44 @@
--- `walk_leaves::planned::planned` meets its contract: bools within 1 are numbers of one byte; of any other values, whoever does those
--- that are left has done them all.
+-- `walk_leaves::planned::planned` meets its contract: a run is given all at once, bools as numbers of one byte; of any other values,
+-- whoever does those that are left has done them all.
 use mathlib.Core.Path.{refl}
 use native.Mathlib.Omega.{arith}
 use borrow.Author.Rules.{rules}
-use Rattle.walk_leaves.proofs.Bools.{bools_inside, bools_ask, bools_given}
-use Rattle.walk_leaves.proofs.OneWidth.{run_size, run_few, run_given}
+use Rattle.plans.proofs.Widths.{bytes_allowed}
+use Rattle.walk_leaves.proofs.OneWidth.{run_size, run_inside, run_given, numbers_run}
+use Rattle.walk_leaves.proofs.Bools.{bools_run}
 use Rattle.nesting.proofs.Runs.{run_asks, run_stopped, run_end}
 use Rattle.nesting.proofs.Counted.{turns_start, turns_next}
 use Rattle.rules.proofs.Passing.{err_passed}
 use Rattle.walk_leaves.proofs.planned.planned.Goals as goal
 
+pub overflow_mul-all : goal.overflow_mul-all
+overflow_mul-all c =
+    let asked = c.requires.2 in
+    omega (arith, run_inside c.args.parts.now c.in-Some.width c.in-Some.ensures c.requires.1 c.args.count asked, asked.short)
+
+pub numbers-requires : goal.numbers-requires
+numbers-requires c =
+    let asked = c.requires.2 in
+    let size = rw c.in-Bytes.is at (run_size c.args.parts.now c.in-Some.width c.in-Some.ensures c.requires.1 c.args.count) in
+    (bytes_allowed c.in-Bytes.is c.in-Some.ensures.0, omega (arith, size, asked.inside, asked.short), omega (arith, asked.small))
+
+pub returns-in-Bytes : goal.returns-in-Bytes
+returns-in-Bytes c =
+    run_given c.args.parts.now c.in-Some.width c.in-Some.ensures c.requires.1 _ _ _ (numbers_run _ _ _ c.in-Bytes.is c.in-Some.ensures.0 c.numbers.ensures)
+
 pub overflow_add-stop : goal.overflow_add-stop
 overflow_add-stop c =
     let asked = c.requires.2 in
-    omega (arith, bools_inside _ (c.is_bool.ensures c.if-is_bool.true) c.requires.1 c.args.count asked, asked.short)
+    omega (arith, run_inside c.args.parts.now c.in-Some.width c.in-Some.ensures c.requires.1 c.args.count asked, asked.short)
 
 pub slice_bounds-bits_of-end : goal.slice_bounds-bits_of-end
-slice_bounds-bits_of-end c = omega (arith, bools_inside _ (c.is_bool.ensures c.if-is_bool.true) c.requires.1 c.args.count c.requires.2)
-
-pub numbers-requires : goal.numbers-requires
-numbers-requires c = bools_ask _ (c.is_bool.ensures c.if-is_bool.true) c.requires.1 c.args.count c.requires.2
+slice_bounds-bits_of-end c = omega (arith, run_inside c.args.parts.now c.in-Some.width c.in-Some.ensures c.requires.1 c.args.count c.requires.2)
 
 pub returns-then-bits_of-le1 : goal.returns-then-bits_of-le1
-returns-then-bits_of-le1 c = bools_given _ (c.is_bool.ensures c.if-is_bool.true) c.requires.1 _ _ _ c.bits_of.ensures c.if-bits_of-le1.true c.numbers.ensures
-
-pub overflow_mul-count : goal.overflow_mul-count
-overflow_mul-count c =
-    let one = rw c.in-Some.is at c.one_width.ensures in
-    search (rules, run_few c.args.parts.now c.in-Some.width one.0 one.1 c.requires.1 c.args.count, c.requires.2)
-
-pub numbers-requires-in-Some : goal.numbers-requires-in-Some
-numbers-requires-in-Some c =
-    let one = rw c.in-Some.is at c.one_width.ensures in
-    let a = c.requires.2 in
-    (one.0, omega (arith, run_size c.args.parts.now c.in-Some.width one.0 one.1 c.requires.1 c.args.count, a.inside, a.short), omega (arith, a.small))
-
-pub returns-in-Some : goal.returns-in-Some
-returns-in-Some c =
-    let one = rw c.in-Some.is at c.one_width.ensures in
-    run_given c.args.parts.now c.in-Some.width one.0 one.1 c.requires.1 _ _ _ c.numbers-in-Some.ensures
+returns-then-bits_of-le1 c =
+    let inside = run_inside c.args.parts.now c.in-Some.width c.in-Some.ensures c.requires.1 c.args.count c.requires.2 in
+    run_given c.args.parts.now c.in-Some.width c.in-Some.ensures c.requires.1 _ _ _
+    (bools_run _ _ _ c.in-Boolean.is inside c.bits_of.ensures c.if-bits_of-le1.true c.numbers-then-bits_of-le1.ensures)
 
 pub loop-init : goal.loop-init
 loop-init c = (turns_start _ _ c.requires.1 c.requires.2, refl)

@@ -20,6 +20,7 @@ use Rattle.write_walk.specs.Walking.{write_row, write_elements}
 use Rattle.nesting.proofs.Counted.{turns_start, turns_next}
 use Rattle.write_leaves.proofs.Leading.{ask_stands}
 use Rattle.write_walk.proofs.Values.{value_bool, value_number, value_handle, value_string, value_empty, string_ask, number_ask, numbers_ask, numbers_done, array_ask, array_done}
+use Rattle.plans.proofs.Rows.{left_alone}
 use Rattle.write_walk.proofs.Plans.{planned_ask, planned_done, alone_ask, alone_done}
 use Rattle.write_walk.proofs.StrictRows.{strict_run_ask, strict_ask, strict_run_done, strict_done}
 use Rattle.write_walk.proofs.Composite.{writing_start, level_known, fill_within, fill_done, into_done, call_asks, call_done, call_refused, out_done, all_put}
@@ -32,13 +33,12 @@ use Rattle.write_walk.proofs.cycle.+composite_content_elements_envelopes_object_
 
 -- ---- composite: structs and arrays
 
-pub composite-planned-requires : goal.composite-planned-requires
-composite-planned-requires t c =
-    alone_ask c.requires.0 (rw c.in-Some.is at c.plan_into.ensures).1 c.item_at-size.ensures c.requires.2
+pub composite-by_plan-requires : goal.composite-by_plan-requires
+composite-by_plan-requires t c = alone_ask c.args.laid.now c.requires.0 c.requires.2
 
 pub composite-returns-in-Some : goal.composite-returns-in-Some
 composite-returns-in-Some t c =
-    alone_done c.requires.0 (rw c.in-Some.is at c.plan_into.ensures).1 c.item_at-size.ensures _ _ _ _ _ _ _ c.requires.2 c.planned.ensures
+    alone_done c.args.laid.now c.requires.0 _ _ _ _ _ _ _ c.requires.2 (rw c.in-Some.is at c.by_plan.ensures)
 
 pub composite-loop-next-init : goal.composite-loop-next-init
 composite-loop-next-init t c =
@@ -94,7 +94,7 @@ composite-loop-next-preserved-in-Call t c =
 
 pub composite-returns-in_err-d-in-Call : goal.composite-returns-in_err-d-in-Call
 composite-returns-in_err-d-in-Call t c =
-    rw (err_passed c.from_residual.ensures.1) (call_refused c.loop-next.invariant.0 c.loop-next.invariant.1 c.next_step.ensures c.in-Call.is c.value.ensures c.in_err-d-in-Call.was)
+    rw (err_passed c.from_residual.ensures.1) (rw (left_alone _ _ c.in_default.is c.by_plan.ensures) at (call_refused c.loop-next.invariant.0 c.loop-next.invariant.1 c.next_step.ensures c.in-Call.is c.value.ensures c.in_err-d-in-Call.was))
 
 pub composite-overflow_sub-around : goal.composite-overflow_sub-around
 composite-overflow_sub-around t c =
@@ -110,7 +110,7 @@ composite-loop-next-preserved t c =
 
 pub composite-returns-in-Done : goal.composite-returns-in-Done
 composite-returns-in-Done t c =
-    all_put c.loop-next.invariant.0 c.loop-next.invariant.1 c.next_step.ensures c.in-Done.is
+    rw (left_alone _ _ c.in_default.is c.by_plan.ensures) at (all_put c.loop-next.invariant.0 c.loop-next.invariant.1 c.next_step.ensures c.in-Done.is)
 
 -- ---- content: an envelope's content
 
@@ -220,11 +220,11 @@ pub elements-returns-then-kind : goal.elements-returns-then-kind
 elements-returns-then-kind t c =
     strict_run_done c.requires.0 c.kind_at-kind.ensures c.if-kind.true _ _ _ _ _ _ _ _ c.requires.1 c.strict_values.ensures
 
-pub elements-planned-requires : goal.elements-planned-requires
-elements-planned-requires t c = planned_ask c.requires.0 (rw c.in-Some.is at c.plan_into.ensures).1 c.item_at-size.ensures _ c.requires.1
+pub elements-by_plan-requires : goal.elements-by_plan-requires
+elements-by_plan-requires t c = planned_ask c.args.laid.now c.requires.0 _ c.requires.1
 
 pub elements-returns-in-Some : goal.elements-returns-in-Some
-elements-returns-in-Some t c = planned_done c.requires.0 (rw c.in-Some.is at c.plan_into.ensures).1 c.item_at-size.ensures _ _ _ _ _ _ _ _ c.requires.1 c.planned.ensures
+elements-returns-in-Some t c = planned_done c.args.laid.now c.requires.0 _ _ _ _ _ _ _ _ c.requires.1 (rw c.in-Some.is at c.by_plan.ensures)
 
 pub elements-loop-init : goal.elements-loop-init
 elements-loop-init t c = (turns_start _ _ refl c.requires.1, search rules)
@@ -233,7 +233,8 @@ pub elements-value-requires : goal.elements-value-requires
 elements-value-requires t c = (omega arith, (search rules, run_asks c.loop.invariant.0 (omega arith)))
 
 pub elements-returns-in_err-d : goal.elements-returns-in_err-d
-elements-returns-in_err-d t c = rw (err_passed c.from_residual.ensures.1) (run_stopped c.loop.invariant.0 (omega arith) c.value.ensures c.in_err-d.was)
+elements-returns-in_err-d t c =
+    rw (err_passed c.from_residual.ensures.1) (rw (left_alone _ _ c.in_default.is c.by_plan.ensures) at (run_stopped c.loop.invariant.0 (omega arith) c.value.ensures c.in_err-d.was))
 
 pub elements-loop-preserved : goal.elements-loop-preserved
 elements-loop-preserved t c =
@@ -241,7 +242,7 @@ elements-loop-preserved t c =
     (turns_next c.loop.invariant.0 (omega arith) c.value.ensures (row_size r _ r.in_use c.item_at-size.ensures) c.in_ok-d.was, search rules)
 
 pub elements-returns : goal.elements-returns
-elements-returns t c = run_end c.loop.invariant.0 (omega arith)
+elements-returns t c = rw (left_alone _ _ c.in_default.is c.by_plan.ensures) at (run_end c.loop.invariant.0 (omega arith))
 
 -- ---- envelopes: a table's envelopes
 
