@@ -212,21 +212,25 @@ fn holds<T: Copy + Into<u64>>(list: &[T], ones: T, given: &[u64]) -> bool {
         )
 }
 
-// The same of an object list, made as wide as the numbers of a case.
-#[inline(never)]
+// The same of an object list.
 fn holds_objects(objects: &[u32; NUMBERS_ROOM], given: &[u64]) -> bool {
-    holds(&widened(objects), u64::MAX, given)
+    given.len() <= objects.len()
+        && objects[..given.len()]
+            .iter()
+            .zip(given)
+            .all(|(held, number)| widened(*held) == *number)
+        && objects[given.len()..]
+            .iter()
+            .fold(true, |right, held| right & (*held == u32::MAX))
 }
 
-// An object list as wide as the numbers of a case: all ones stay all ones.
-fn widened(objects: &[u32; NUMBERS_ROOM]) -> [u64; NUMBERS_ROOM] {
-    let mut wide = [u64::MAX; NUMBERS_ROOM];
-    for (at, object) in objects.iter().enumerate() {
-        if *object != u32::MAX {
-            wide[at] = u64::from(*object);
-        }
+// A number of an object list, as wide as the numbers of a case: all ones stay all ones.
+fn widened(object: u32) -> u64 {
+    if object == u32::MAX {
+        u64::MAX
+    } else {
+        u64::from(object)
     }
-    wide
 }
 
 // The message, the place and the count; number and place.

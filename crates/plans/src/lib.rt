@@ -143,7 +143,7 @@ fn flat_members(
     Some(count)
 }
 
-// The plan of a row's value: its parts are put into a lent array, and counted. The walks lend one, so that no plan is moved: that
+// The plan of a row's value: its parts are put into a lent array, and counted. The walks' leaves lend one, so that no plan is moved: that
 // would be a call of `memcpy`, which a host would have to bring.
 pub fn plan_into(
     rows: &[u32],

@@ -1,10 +1,9 @@
 -- A struct or an array without parts, as the value walk takes it, and what the scalars ask for.
 -- Assumes nothing.
-use Rattle.std.specs.Prelude.{Ok}
 use mathlib.Core.Bool.{Bool, true, false}
 use mathlib.Core.List.{List}
 use mathlib.Core.Path.{◌≡◌, refl, sym, ◌∙◌}
-use Prim.Native.Nat.{ℕ, ◌+◌, ◌*◌, ◌≤◌, ◌<◌}
+use Prim.Native.Nat.{ℕ, ◌*◌, ◌≤◌, ◌<◌}
 use native.Mathlib.Omega.{arith}
 use lib.ListN.{length}
 use Rattle.rules.specs.TypeTable.{TypeTable, kind_at, a_at, b_at, member_rows}
@@ -22,11 +21,10 @@ use Rattle.layout.proofs.Readiness.{row_few, ready_at}
 use Rattle.walk_leaves.specs.declared.cursor.Cursor.{Cursor}
 use Rattle.walk_leaves.specs.Doing.{Walked}
 use Rattle.walk_leaves.specs.Doing.{message, Ask}
-use Rattle.walk_leaves.specs.Parts.{numbers_at, DidValues, DidNeither}
-use Rattle.walk.specs.Walking.{ValueDid}
+use Rattle.walk_leaves.specs.Parts.{DidNeither}
+use Rattle.walk.specs.Walking.{ValueDid, ElementsDid}
 use Rattle.walk_leaves.proofs.Steps.{did_more}
 use Rattle.walk.proofs.ByKind.{decode_struct}
-use Rattle.walk.proofs.Numbers.{numbers_ask, numbers_done}
 use Rattle.walk.proofs.Values.{value_array}
 
 -- ---- an empty struct
@@ -44,28 +42,21 @@ value_empty {t} {depth = depth} {row} ready bytes handles at v o c r e q p n h l
 
 -- ---- an array of numbers
 
-module _ {t : TypeTable} {sizes alignments : List ℕ} {depth row : ℕ} (ready : Ready t sizes alignments depth row) {a b width : ℕ} (q : kind_at t row ≡ 4)
-    (n : has_parts t.rows row ≡ false) (f : a ≡ a_at t row) (g : b ≡ b_at t row) (w : width ≡ a_at t a) where
+module _ {t : TypeTable} {sizes alignments : List ℕ} {depth row : ℕ} (ready : Ready t sizes alignments depth row) {a b : ℕ} (q : kind_at t row ≡ 4)
+    (n : has_parts t.rows row ≡ false) (f : a ≡ a_at t row) (g : b ≡ b_at t row) where
   below : a < row
   below = rw f (array_below t row ready.sound ready.in_use q)
 
-  element : Ready t sizes alignments depth a
-  element = let h = below in ready_at ready depth a (omega arith) (omega (arith, ready.in_use))
-
-  numbered : kind_at t a ≡ 2
-  numbered = rw f (array_numbers t.rows row (row_few ready) n q)
-
-  elements_ask : {total handles at : ℕ} {c : Cursor} → Ask total handles (size_of t row) at c → Ask total handles (b * size_of t a) at c
-  elements_ask ask = rw (f, g) (rw (size_array t row q (rw f at below)) at ask)
-
+  -- its elements are numbers
   pub array_ask : {total handles at : ℕ} {c : Cursor} → Ask total handles (size_of t row) at c
-      → (width_allowed width ≡ true) × (at + b * width ≤ 65536) × (c.values < 4294967296)
-  array_ask ask = numbers_ask element refl numbered w b (elements_ask ask)
+      → Ready t sizes alignments depth a × (kind_at t a ≡ 2) × Ask total handles (b * size_of t a) at c
+  array_ask ask =
+      let h = below in
+      (ready_at ready depth a (omega arith) (omega (arith, ready.in_use)), rw f (array_numbers t.rows row (row_few ready) n q), rw (f, g) (rw (size_array t row q (rw f at below)) at ask))
 
-  pub array_done : (bytes : List ℕ) (handles at : ℕ) (v v' o : List ℕ) (c d : Cursor) → Ask (length bytes) handles (size_of t row) at c
-      → DidValues bytes v v' b at c (Ok d) (numbers_at width b) → ValueDid t bytes handles depth v v' o o at c row (Ok d)
-  array_done bytes handles at v v' o c d ask did =
-      value_array t bytes handles depth row at v v' o o c (Ok d) refl q f g below (numbers_done element refl numbered w bytes handles at b v v' o c d (elements_ask ask) did)
+  pub array_done : (bytes : List ℕ) (handles at : ℕ) (v v' o : List ℕ) (c : Cursor) (r : Walked) → ElementsDid t bytes handles depth v v' o o at c a b r
+      → ValueDid t bytes handles depth v v' o o at c row r
+  array_done bytes handles at v v' o c r did = value_array t bytes handles depth row at v v' o o c r refl q f g below did
 
 -- ---- what the scalars ask for
 

@@ -21,13 +21,13 @@ use Rattle.walk.specs.Walking.{ElementsDid}
 use Rattle.walk_leaves.proofs.Steps.{did_more}
 use Rattle.walk.proofs.ByKind.{decode_number}
 
-module _ {t : TypeTable} {sizes alignments : List ℕ} {depth row : ℕ} (ready : Ready t sizes alignments depth row) {k width : ℕ}
-    (e : k ≡ kind_at t row) (q : k ≡ 2) (f : width ≡ a_at t row) where
+module _ {t : TypeTable} {sizes alignments : List ℕ} {depth row : ℕ} (ready : Ready t sizes alignments depth row) {width : ℕ} (q : kind_at t row ≡ 2)
+    (f : width ≡ a_at t row) where
   allowed : width_allowed width ≡ true
-  allowed = rw f (number_width t row ready.sound ready.in_use (sym e ∙ q))
+  allowed = rw f (number_width t row ready.sound ready.in_use q)
 
   wide : size_of t row ≡ width
-  wide = size_number t row (sym e ∙ q) ∙ sym f
+  wide = size_number t row q ∙ sym f
 
   pub numbers_ask : {total handles at : ℕ} {c : Cursor} (count : ℕ) → Ask total handles (count * size_of t row) at c
       → (width_allowed width ≡ true) × (at + count * width ≤ 65536) × (c.values < 4294967296)
@@ -40,5 +40,5 @@ module _ {t : TypeTable} {sizes alignments : List ℕ} {depth row : ℕ} (ready 
   unfolding numbers_at
   numbers_done bytes handles at count v v' o c d a did =
       let m = message t bytes handles in
-      rw (decode_number m (W.levels m depth) row (sym e ∙ q), wide, ← f)
+      rw (decode_number m (W.levels m depth) row q, wide, ← f)
       (did_more (count * width) (le-mul_of_pos_right count (width_positive width allowed)) (did t o handles a.free a.held))

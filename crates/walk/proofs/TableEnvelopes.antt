@@ -2,12 +2,11 @@
 -- Assumes nothing.
 use Rattle.std.specs.Prelude.{Err, Ok, Option}
 use mathlib.Core.List.{List}
-use mathlib.Core.Path.{◌≡◌, refl, sym, ap, ◌∙◌}
+use mathlib.Core.Path.{◌≡◌, refl, sym, ◌∙◌}
 use Prim.Native.Nat.{ℕ, ◌+◌, ◌-◌, ◌*◌, ◌≤◌, ◌<◌}
 use native.Mathlib.Omega.{arith}
 use borrow.Author.Tests.{eq-eqb, ne_eqb}
 use lib.ListN.{length}
-use lib.Seq.{length-sets}
 use Rattle.rules.specs.declared.Fault.{Fault}
 use Rattle.rules.specs.declared.Place.TheVariants.{Byte}
 use Rattle.rules.specs.Refusals.{fault, last_envelope_zero}
@@ -89,7 +88,3 @@ module _ (t : TypeTable) (bytes : List ℕ) (handles depth row count at : ℕ) (
 
           pub one_refused : {f : Fault} → w ≡ Err f → EnvelopesDid t bytes handles depth v v'' o o'' at c row count (Err f)
           one_refused y = run_refused r (omega arith) (rw y at present)
-
-          -- The lent lists are as long as they were.
-          pub one_lengths : (length v'' ≡ length v') × (length o'' ≡ length o')
-          one_lengths = (ap length present.valued ∙ simp length-sets, ap length present.listed ∙ simp length-sets)

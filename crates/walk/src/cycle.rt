@@ -67,7 +67,8 @@ pub fn value(
         if kind == 7 {
             return fill_at(bytes, at, 1, c);
         }
-        return array_of_numbers(laid, bytes, held, values, depth, row, at, c);
+        let count = table::b_at(rows, row) as usize;
+        return run_of_numbers(laid, bytes, held, values, depth, a as usize, count, at, c);
     }
     if kind == 6 {
         let largest = table::b_at(rows, row);
@@ -80,25 +81,23 @@ pub fn value(
     out_of_line(laid, bytes, held, values, objects, depth, row, at, c)
 }
 
-// An array of numbers. A function of its own, so that `value`, which calls itself, has less on the stack.
-fn array_of_numbers(
+// So many numbers, one after the other. A call of its own, so that what it needs lies on no stack of the functions that call each other.
+#[inline(never)]
+fn run_of_numbers(
     laid: &Laid<'_>,
     bytes: &[u8],
     held: usize,
     values: &mut [u64],
     depth: usize,
     row: usize,
+    count: usize,
     at: usize,
     c: Cursor,
 ) -> Result<Cursor, Fault>
-    requires { Ready (table_in laid.now) laid.now.sizes.now laid.now.alignments.now depth row × (kind_at (table_in laid.now) row ≡ 4) × (has_parts laid.now.rows.now row ≡ false)
-        × Ask (length bytes.now) held (size_of (table_in laid.now) row) at c }
-    ensures { (objects : List ℕ) → ValueDid (table_in laid.now) bytes.now held depth values.old values.new objects objects at c row result }
+    requires { Ready (table_in laid.now) laid.now.sizes.now laid.now.alignments.now depth row × (kind_at (table_in laid.now) row ≡ 2) × Ask (length bytes.now) held (count * size_of (table_in laid.now) row) at c }
+    ensures { (objects : List ℕ) → ElementsDid (table_in laid.now) bytes.now held depth values.old values.new objects objects at c row count result }
 {
-    let Laid { rows, .. } = *laid;
-    let element = table::a_at(rows, row) as usize;
-    let width = table::a_at(rows, element);
-    let count = table::b_at(rows, row) as usize;
+    let width = table::a_at(laid.rows, row);
     Ok(numbers(bytes, values, width, count, at, c))
 }
 
@@ -127,8 +126,7 @@ fn elements(
     } = *laid;
     let kind = table::kind_at(rows, row);
     if kind == 2 {
-        let width = table::a_at(rows, row);
-        return Ok(numbers(bytes, values, width, count, at, c));
+        return run_of_numbers(laid, bytes, held, values, depth, row, count, at, c);
     }
     if (kind == 11) | (kind == 12) {
         return strict_values(rows, entries, bytes, values, row, count, at, c);

@@ -20,13 +20,12 @@ use Rattle.walk_records.proofs.Openings.{ask_bytes}
 use Rattle.walk.proofs.Contents.{content_unknown, content_closed, content_not_open, payload_few, payload_small, payload_ready, payload_asks, payload_rises, content_sealed, content_refused}
 use Rattle.walk_records.proofs.Unions.{member_fits}
 use Rattle.walk.proofs.OutOfLine.{elements_few, vector_record, box_record, table_record_lem, union_record_lem, vector_closed, vector_refused, vector_asks, vector_done, box_absent, box_refused, box_asks, box_done, table_closed, table_refused, table_asks, table_done, union_none, union_bad, union_asks, union_done}
-use Rattle.walk.proofs.Numbers.{numbers_ask, numbers_done}
 use Rattle.plans.proofs.Rows.{left_alone}
 use Rattle.walk.proofs.Plans.{planned_ask, planned_done, alone_ask, alone_done}
 use Rattle.walk.proofs.StrictRows.{strict_run_ask, strict_ask, strict_run_done, strict_done}
 use Rattle.walk.proofs.TableEnvelopes.{EnvelopesLeft, envelopes_start, envelopes_end, content_asks, last_absent, one_absent, one_present, one_refused}
 use Rattle.walk.proofs.Values.{value_bool, value_number, value_handle, value_string}
-use Rattle.walk.proofs.NoParts.{value_empty, number_ask, string_ask}
+use Rattle.walk.proofs.NoParts.{value_empty, array_ask, array_done, number_ask, string_ask}
 use Rattle.walk.proofs.Turns.{walking_start, state_known, turn_fill, turn_filled, turn_fill_refused, turn_into, turn_call, turn_called, turn_call_refused, turn_out, turn_done}
 use Rattle.walk.proofs.OneMember.{one_member, member_asks, fill_asks, member_refused, member_filled}
 use Rattle.walk.proofs.cycle.+composite_content_elements_envelopes_out_of_line_value.Goals as goal
@@ -211,12 +210,11 @@ content-returns-in_err-d-in-Open t c =
 
 -- ---- elements: a vector's elements
 
-pub elements-numbers-requires : goal.elements-numbers-requires
-elements-numbers-requires t c =
-    numbers_ask c.requires.0 c.kind_at-kind.ensures c.if-kind-eq2.true c.a_at-width.ensures _ c.requires.1
+pub elements-run_of_numbers-requires : goal.elements-run_of_numbers-requires
+elements-run_of_numbers-requires t c = (c.requires.0, sym c.kind_at-kind.ensures ∙ c.if-kind-eq2.true, c.requires.1)
 
 pub elements-returns-then-kind-eq2 : goal.elements-returns-then-kind-eq2
-elements-returns-then-kind-eq2 t c = search (rules, numbers_done)
+elements-returns-then-kind-eq2 t c = c.run_of_numbers.ensures c.args.objects.now
 
 pub elements-strict_values-requires : goal.elements-strict_values-requires
 elements-strict_values-requires t c =
@@ -429,12 +427,14 @@ value-composite-requires t c =
 pub value-returns-then-kind-eq7 : goal.value-returns-then-kind-eq7
 value-returns-then-kind-eq7 t c = search (rules, value_empty)
 
-pub value-array_of_numbers-requires : goal.value-array_of_numbers-requires
-value-array_of_numbers-requires t c =
-    (c.requires.0, sym c.kind_at-kind.ensures ∙ array_left _ c.if-kind.true c.if-kind-eq7.false, sym c.has_parts.ensures ∙ c.if-has_parts.false, c.requires.1)
+pub value-run_of_numbers-requires : goal.value-run_of_numbers-requires
+value-run_of_numbers-requires t c =
+    array_ask c.requires.0 (sym c.kind_at-kind.ensures ∙ array_left _ c.if-kind.true c.if-kind-eq7.false) (sym c.has_parts.ensures ∙ c.if-has_parts.false) c.a_at-a.ensures c.b_at-count.ensures c.requires.1
 
 pub value-returns-then-kind : goal.value-returns-then-kind
-value-returns-then-kind t c = c.array_of_numbers.ensures c.args.objects.now
+value-returns-then-kind t c =
+    array_done c.requires.0 (sym c.kind_at-kind.ensures ∙ array_left _ c.if-kind.true c.if-kind-eq7.false) (sym c.has_parts.ensures ∙ c.if-has_parts.false) c.a_at-a.ensures c.b_at-count.ensures
+    _ _ _ _ _ _ _ _ (c.run_of_numbers.ensures c.args.objects.now)
 
 pub value-string-requires : goal.value-string-requires
 value-string-requires t c =
