@@ -13,7 +13,7 @@ use layout::laid::Laid;
 use nesting::{Level, NESTED, Step};
 use rules::{Fault, Refusal};
 use walk_leaves::claims::fill_at;
-use walk_leaves::cursor::{Cursor, gave, refused};
+use walk_leaves::cursor::{Cursor, gave, passed_on, refused};
 use walk_leaves::planned::by_plan;
 use walk_leaves::scalars::{boolean, handle, number, numbers};
 use walk_leaves::strict_rows::strict_values;
@@ -268,7 +268,7 @@ fn out_of_line(
         let size = words::item_at(sizes, a) as usize;
         return match vector_opened(bytes, values, objects, depth, row, size, b, form, at, c)? {
             Opened::Closed(d) => Ok(d),
-            Opened::Open(x) => elements(
+            Opened::Open(x) => passed_on(elements(
                 laid,
                 bytes,
                 held,
@@ -279,14 +279,14 @@ fn out_of_line(
                 x.count,
                 x.start,
                 x.cursor,
-            ),
+            )),
         };
     }
     if kind == 8 {
         let size = words::item_at(sizes, a) as usize;
         return match box_opened(bytes, values, objects, depth, a, size, at, c)? {
             Opened::Closed(d) => Ok(d),
-            Opened::Open(x) => value(
+            Opened::Open(x) => passed_on(value(
                 laid,
                 bytes,
                 held,
@@ -299,13 +299,13 @@ fn out_of_line(
                 x.cursor.handles,
                 x.cursor.values,
                 x.cursor.objects,
-            ),
+            )),
         };
     }
     if kind == 9 {
         return match table_opened(bytes, values, objects, depth, row, at, c)? {
             Opened::Closed(d) => Ok(d),
-            Opened::Open(x) => envelopes(
+            Opened::Open(x) => passed_on(envelopes(
                 laid,
                 bytes,
                 held,
@@ -316,12 +316,12 @@ fn out_of_line(
                 x.count,
                 x.start,
                 x.cursor,
-            ),
+            )),
         };
     }
     match union_member(members, bytes, values, a, b as usize, form, at, c)? {
         Member::Absent(d) => Ok(d),
-        Member::Present(what, d) => content(
+        Member::Present(what, d) => passed_on(content(
             laid,
             bytes,
             held,
@@ -332,7 +332,7 @@ fn out_of_line(
             what,
             at + 8,
             d,
-        ),
+        )),
     }
 }
 

@@ -74,3 +74,15 @@ pub fn put_zeros(out: &mut [u8], at: usize, count: usize)
         u8::store(out, at + i, 0);
     }
 }
+
+// The same answer, taken apart and made anew. Copied whole it is loaded sixteen bytes at a time, which waits for stores of eight: a callee's
+// answer that is its caller's own goes by this, where functions call each other in depth.
+#[inline(always)]
+pub fn passed_on(answer: Result<Cursor, Fault>) -> Result<Cursor, Fault>
+    ensures { result ≡ answer }
+{
+    match answer {
+        Ok(c) => Ok(c),
+        Err(f) => Err(f),
+    }
+}

@@ -13,7 +13,7 @@ use layout::laid::Laid;
 use nesting::{Level, NESTED, Step};
 use rules::{Fault, Refusal};
 use words::Word;
-use write_leaves::cursor::{Cursor, put_zeros, refused, took};
+use write_leaves::cursor::{Cursor, passed_on, put_zeros, refused, took};
 use write_leaves::planned::by_plan;
 use write_leaves::scalars::{boolean, handle, number, numbers};
 use write_leaves::strict_rows::strict_values;
@@ -258,7 +258,7 @@ fn single(
         x.cursor.index,
     );
     fill_up(rest, words::item_at(sizes, row) as usize);
-    wrote
+    passed_on(wrote)
 }
 
 // A value whose record leads out of line: vector, box, table or union.
@@ -291,14 +291,14 @@ fn out_of_line(
         let size = words::item_at(sizes, a) as usize;
         return match vector_opened(values, out, depth, size, b, form, at, c)? {
             Opened::Closed(d) => Ok(d),
-            Opened::Open(x) => object(laid, values, out, base, depth - 1, a, x),
+            Opened::Open(x) => passed_on(object(laid, values, out, base, depth - 1, a, x)),
         };
     }
     if kind == 8 {
         let size = words::item_at(sizes, a) as usize;
         return match box_opened(values, out, depth, size, at, c)? {
             Opened::Closed(d) => Ok(d),
-            Opened::Open(x) => single(laid, values, out, base, depth - 1, a, x),
+            Opened::Open(x) => passed_on(single(laid, values, out, base, depth - 1, a, x)),
         };
     }
     if kind == 9 {
@@ -306,7 +306,7 @@ fn out_of_line(
             Opened::Closed(d) => Ok(d),
             Opened::Open(x) => {
                 let from = rest_from(base, x.start, out.len());
-                envelopes(
+                passed_on(envelopes(
                     laid,
                     values,
                     &mut out[from..],
@@ -315,13 +315,22 @@ fn out_of_line(
                     row,
                     x.count,
                     x.cursor,
-                )
+                ))
             }
         };
     }
     match union_member(members, values, out, a, b as usize, form, at, c)? {
         Member::Absent(d) => Ok(d),
-        Member::Present(what, d) => content(laid, values, out, base, depth, what, at + 8, d),
+        Member::Present(what, d) => passed_on(content(
+            laid,
+            values,
+            out,
+            base,
+            depth,
+            what,
+            at + 8,
+            d,
+        )),
     }
 }
 

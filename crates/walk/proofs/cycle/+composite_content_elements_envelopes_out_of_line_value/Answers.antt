@@ -313,7 +313,7 @@ out_of_line-returns-in_err-d t c =
 
 pub out_of_line-returns-in-Open : goal.out_of_line-returns-in-Open
 out_of_line-returns-in-Open t c =
-    vector_done _ _ _ _ _ _ _ _ _ _ _ _ c.kind_at-kind.ensures c.requires.2 c.if-kind-eq5.true c.a_at-a.ensures c.b_at-b.ensures c.c_at-form.ensures c.requires.0 c.item_at-size.ensures c.vector_opened.ensures.0 (ok_is c.in_ok-d.was c.in-Open.is) c.elements.ensures
+    rw c.passed_on.ensures (vector_done _ _ _ _ _ _ _ _ _ _ _ _ c.kind_at-kind.ensures c.requires.2 c.if-kind-eq5.true c.a_at-a.ensures c.b_at-b.ensures c.c_at-form.ensures c.requires.0 c.item_at-size.ensures c.vector_opened.ensures.0 (ok_is c.in_ok-d.was c.in-Open.is) c.elements.ensures)
 
 pub out_of_line-box_opened-requires : goal.out_of_line-box_opened-requires
 out_of_line-box_opened-requires t c =
@@ -341,7 +341,7 @@ out_of_line-returns-in_err-d-2 t c =
 
 pub out_of_line-returns-in-Open-2 : goal.out_of_line-returns-in-Open-2
 out_of_line-returns-in-Open-2 t c =
-    box_done _ _ _ _ _ _ _ _ _ _ _ _ c.kind_at-kind.ensures c.requires.2 c.if-kind-eq8.true c.a_at-a.ensures c.requires.0 c.item_at-size-then-kind-eq8.ensures c.box_opened.ensures.0 (ok_is c.in_ok-d-2.was c.in-Open-2.is) c.value.ensures
+    rw c.passed_on-in-Open-2.ensures (box_done _ _ _ _ _ _ _ _ _ _ _ _ c.kind_at-kind.ensures c.requires.2 c.if-kind-eq8.true c.a_at-a.ensures c.requires.0 c.item_at-size-then-kind-eq8.ensures c.box_opened.ensures.0 (ok_is c.in_ok-d-2.was c.in-Open-2.is) c.value.ensures)
 
 pub out_of_line-table_opened-requires : goal.out_of_line-table_opened-requires
 out_of_line-table_opened-requires t c =
@@ -367,7 +367,7 @@ out_of_line-returns-in_err-d-3 t c =
 
 pub out_of_line-returns-in-Open-3 : goal.out_of_line-returns-in-Open-3
 out_of_line-returns-in-Open-3 t c =
-    table_done _ _ _ _ _ _ _ _ _ _ _ _ c.kind_at-kind.ensures c.requires.2 c.if-kind-eq9.true c.requires.0 c.table_opened.ensures.0 (ok_is c.in_ok-d-3.was c.in-Open-3.is) c.envelopes.ensures
+    rw c.passed_on-in-Open-3.ensures (table_done _ _ _ _ _ _ _ _ _ _ _ _ c.kind_at-kind.ensures c.requires.2 c.if-kind-eq9.true c.requires.0 c.table_opened.ensures.0 (ok_is c.in_ok-d-3.was c.in-Open-3.is) c.envelopes.ensures)
 
 pub out_of_line-union_member-requires : goal.out_of_line-union_member-requires
 out_of_line-union_member-requires t c =
@@ -402,7 +402,7 @@ out_of_line-returns-in_err-d-4 t c =
 pub out_of_line-returns-in-Present : goal.out_of_line-returns-in-Present
 out_of_line-returns-in-Present t c =
     let q = union_else c.requires.0 c.kind_at-kind.ensures c.requires.1 c.if-kind-eq5.false c.if-kind-eq8.false c.if-kind-eq9.false in
-    union_done _ _ _ _ _ _ _ _ _ _ _ c.kind_at-kind.ensures c.a_at-a.ensures c.b_at-b.ensures c.c_at-form.ensures q c.requires.0 c.requires.2 c.union_member.ensures.0 (ok_is c.in_ok-d-4.was c.in-Present.is) c.content.ensures
+    rw c.passed_on-in-Present.ensures (union_done _ _ _ _ _ _ _ _ _ _ _ c.kind_at-kind.ensures c.a_at-a.ensures c.b_at-b.ensures c.c_at-form.ensures q c.requires.0 c.requires.2 c.union_member.ensures.0 (ok_is c.in_ok-d-4.was c.in-Present.is) c.content.ensures)
 
 -- ---- value: a value of any kind
 

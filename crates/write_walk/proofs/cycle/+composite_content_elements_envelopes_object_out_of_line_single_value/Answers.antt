@@ -332,7 +332,7 @@ out_of_line-returns-in_err-d t c =
 
 pub out_of_line-returns-in-Open : goal.out_of_line-returns-in-Open
 out_of_line-returns-in-Open t c =
-    (vector_done _ _ _ _ _ _ _ _ _ _ c.kind_at-kind.ensures c.requires.2 c.if-kind-eq5.true c.a_at-a.ensures c.b_at-b.ensures c.c_at-form.ensures c.requires.0 c.item_at-size.ensures c.vector_opened.ensures.0 (c.in_ok-d.was ∙ ap Ok c.in-Open.is) c.object.ensures)
+    rw c.passed_on.ensures (vector_done _ _ _ _ _ _ _ _ _ _ c.kind_at-kind.ensures c.requires.2 c.if-kind-eq5.true c.a_at-a.ensures c.b_at-b.ensures c.c_at-form.ensures c.requires.0 c.item_at-size.ensures c.vector_opened.ensures.0 (c.in_ok-d.was ∙ ap Ok c.in-Open.is) c.object.ensures)
 
 pub out_of_line-box_opened-requires : goal.out_of_line-box_opened-requires
 out_of_line-box_opened-requires t c =
@@ -357,7 +357,7 @@ out_of_line-returns-in_err-d-2 t c =
 
 pub out_of_line-returns-in-Open-2 : goal.out_of_line-returns-in-Open-2
 out_of_line-returns-in-Open-2 t c =
-    (box_done _ _ _ _ _ _ _ _ _ _ c.kind_at-kind.ensures c.requires.2 c.if-kind-eq8.true c.a_at-a.ensures c.requires.0 c.item_at-size-then-kind-eq8.ensures c.box_opened.ensures.0 (c.in_ok-d-2.was ∙ ap Ok c.in-Open-2.is) c.single.ensures)
+    rw c.passed_on-in-Open-2.ensures (box_done _ _ _ _ _ _ _ _ _ _ c.kind_at-kind.ensures c.requires.2 c.if-kind-eq8.true c.a_at-a.ensures c.requires.0 c.item_at-size-then-kind-eq8.ensures c.box_opened.ensures.0 (c.in_ok-d-2.was ∙ ap Ok c.in-Open-2.is) c.single.ensures)
 
 pub out_of_line-table_opened-requires : goal.out_of_line-table_opened-requires
 out_of_line-table_opened-requires t c =
@@ -386,7 +386,7 @@ out_of_line-returns-in_err-d-3 t c =
 
 pub out_of_line-returns-in-Open-3 : goal.out_of_line-returns-in-Open-3
 out_of_line-returns-in-Open-3 t c =
-    (table_done _ _ _ _ _ _ _ _ _ _ c.kind_at-kind.ensures c.requires.2 c.if-kind-eq9.true c.requires.0 c.table_opened.ensures.0 (c.in_ok-d-3.was ∙ ap Ok c.in-Open-3.is) _ c.rest_from-from.ensures c.envelopes.ensures)
+    rw c.passed_on-in-Open-3.ensures (table_done _ _ _ _ _ _ _ _ _ _ c.kind_at-kind.ensures c.requires.2 c.if-kind-eq9.true c.requires.0 c.table_opened.ensures.0 (c.in_ok-d-3.was ∙ ap Ok c.in-Open-3.is) _ c.rest_from-from.ensures c.envelopes.ensures)
 
 pub out_of_line-union_member-requires : goal.out_of_line-union_member-requires
 out_of_line-union_member-requires t c =
@@ -412,7 +412,8 @@ out_of_line-returns-in_err-d-4 t c =
 
 pub out_of_line-returns-in-Present : goal.out_of_line-returns-in-Present
 out_of_line-returns-in-Present t c =
-    let q = union_else c.requires.0 c.kind_at-kind.ensures c.requires.1 c.if-kind-eq5.false c.if-kind-eq8.false c.if-kind-eq9.false in (union_done _ _ _ _ _ _ _ _ _ _ c.kind_at-kind.ensures c.a_at-a.ensures c.b_at-b.ensures c.c_at-form.ensures q c.requires.0 c.requires.2 c.union_member.ensures.0 (c.in_ok-d-4.was ∙ ap Ok c.in-Present.is) c.content.ensures)
+    let q = union_else c.requires.0 c.kind_at-kind.ensures c.requires.1 c.if-kind-eq5.false c.if-kind-eq8.false c.if-kind-eq9.false in
+    rw c.passed_on-in-Present.ensures (union_done _ _ _ _ _ _ _ _ _ _ c.kind_at-kind.ensures c.a_at-a.ensures c.b_at-b.ensures c.c_at-form.ensures q c.requires.0 c.requires.2 c.union_member.ensures.0 (c.in_ok-d-4.was ∙ ap Ok c.in-Present.is) c.content.ensures)
 
 -- ---- single: a claimed object of one value
 
@@ -430,7 +431,7 @@ single-fill_up-requires t c =
 
 pub single-returns : goal.single-returns
 single-returns t c =
-    object_written _ c.args.out.now _ _ _ _ (write_row (table_in c.args.laid.now) c.args.depth c.args.row) c.requires.1 c.value-wrote.ensures c.rest_from-from.ensures (row_size c.requires.0 _ c.requires.0.in_use c.item_at.ensures) c.fill_up.ensures refl
+    object_written _ c.args.out.now _ _ _ _ (write_row (table_in c.args.laid.now) c.args.depth c.args.row) c.requires.1 c.value-wrote.ensures c.rest_from-from.ensures (row_size c.requires.0 _ c.requires.0.in_use c.item_at.ensures) c.fill_up.ensures c.passed_on.ensures
 
 -- ---- value: a value of any kind
 
