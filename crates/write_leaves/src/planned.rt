@@ -45,7 +45,7 @@ fn one(
     Ok(d)
 }
 
-// As many values as there are, one after the other, each of so many bytes. Out of line, as its loops take all registers.
+// As many values as there are, one after the other, each of so many bytes. A call of its own, as its loops take all registers.
 #[inline(never)]
 pub fn planned(
     values: &[u64],

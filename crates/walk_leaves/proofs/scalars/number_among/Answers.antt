@@ -5,4 +5,4 @@ use Rattle.walk_leaves.proofs.scalars.number_among.Goals as goal
 
 pub returns : goal.returns
 returns c =
-    low_part c.args.bytes.now c.type_inv.bytes c.args.at c.args.width c.requires.0 (c.load.ensures ∙ lent_word c.args.bytes.now c.args.at) c.mask_of.ensures
+    low_part c.args.bytes.now c.type_inv.bytes c.args.at c.args.width c.if-bytes-at.false c.requires.0 (c.load.ensures ∙ lent_word c.args.bytes.now c.args.at) c.mask_of.ensures
